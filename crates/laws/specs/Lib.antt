@@ -1,0 +1,2 @@
+-- Facts about lists, bounded quantifiers, loops and bytes as numbers, each stated once.
+pub mod Below
