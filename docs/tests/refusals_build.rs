@@ -1,0 +1,225 @@
+//! Build: the refusals it gives (21, 3, 4, 5, 7, 8, 20), and its marks.
+
+mod common;
+use common::*;
+use second::{build, build_vec, check};
+
+#[test]
+fn refusal_21() {
+    let k = &K_COORDINATES;
+    build_refused("11 coordinates", &k[..11], &[0, 1, 2, 3], 21);
+    build_refused("10 coordinates", &k[..10], &[0, 1, 2, 3], 21);
+    build_refused("one coordinate", &[0], &[], 21);
+    build_refused(
+        "13 coordinates",
+        &[&k[..], &[16]].concat(),
+        &[0, 1, 2, 3],
+        21,
+    );
+    build_refused("3 corners", k, &[0, 1, 2], 21);
+    build_refused("5 corners", k, &[0, 1, 2, 3, 0], 21);
+    build_refused("6 corners", k, &[0, 1, 2, 3, 0, 1], 21);
+    build_refused("one corner alone", &[], &[65_535], 21);
+    build_refused("both", &k[..11], &[0, 1, 2], 21);
+    // Not earned: empty lists are whole multiples.
+    build_refused("nothing", &[], &[], 3);
+    build_refused("no pieces", k, &[], 3);
+    build_refused("no vertices", &[], &[0, 1, 2, 3], 3);
+    assert!(build_vec(7, k, &[0, 1, 2, 3]).is_ok());
+}
+
+#[test]
+fn refusal_3() {
+    let k = &K_COORDINATES;
+    build_refused("3 vertices", &k[..9], &[0, 1, 2, 3], 3);
+    // No coordinate is looked at before 3: these are all off the grid and at one place.
+    build_refused("1,025 vertices", &[1; 3 * 1_025], &[0, 1, 2, 3], 3);
+    build_refused("70,000 vertices", &vec![1; 3 * 70_000], &[0, 1, 2, 3], 3);
+    build_refused("65,540 vertices", &vec![1; 3 * 65_540], &[0, 1, 2, 3], 3);
+    let repeated = |pieces: usize| [0u16, 1, 2, 3].repeat(pieces);
+    build_refused("3,073 pieces", k, &repeated(3_073), 3);
+    build_refused("65,537 pieces", k, &repeated(65_537), 3);
+    build_refused("70,000 pieces", k, &repeated(70_000), 3);
+    // Not earned.
+    build_refused("1,024 vertices", &[1; 3 * 1_024], &[0, 1, 2, 3], 4);
+    build_refused("3,072 pieces", k, &repeated(3_072), 7);
+    let (coordinates, corners) = crowded(1_024, 3_072, 3);
+    let mut out = vec![1; FULL];
+    assert_eq!(build(u32::MAX, &coordinates, &corners, &mut out), 0);
+    mesh_accepted("the largest mesh", &out);
+    assert_eq!(build(0, &coordinates, &corners, &mut out[..FULL - 1]), 20);
+}
+
+#[test]
+fn refusal_4() {
+    for (at, bad) in [(0, 16), (5, -32_768), (11, 32_767), (7, 63), (3, -1)] {
+        let mut coordinates = K_COORDINATES;
+        coordinates[at] = bad;
+        build_refused("off the grid", &coordinates, &[0, 1, 2, 3], 4);
+    }
+    let mut coordinates = K_COORDINATES;
+    coordinates[9..].copy_from_slice(&[64, 0, 0]);
+    build_refused("two at one place", &coordinates, &[0, 1, 2, 3], 4);
+    let five = [&K_COORDINATES[..], &[64, 64, 0]].concat();
+    build_refused("two at one place, one unused", &five, &[0, 1, 2, 3], 4);
+    build_refused(
+        "two at one place in two pieces",
+        &five,
+        &[0, 1, 2, 3, 0, 1, 4, 3],
+        4,
+    );
+    let largest = K_COORDINATES.map(|x| if x == 64 { 32_736 } else { -32_736 });
+    let mesh = build_vec(7, &largest, &[0, 1, 2, 3]).unwrap();
+    assert_eq!(check(&mesh).sixfold, 65_472u64.pow(3));
+}
+
+#[test]
+fn refusal_5() {
+    let k = &K_COORDINATES;
+    for corners in [
+        [0, 0, 1, 2],
+        [0, 1, 2, 0],
+        [1, 2, 3, 3],
+        [3, 3, 3, 3],
+        [0, 1, 2, 1],
+    ] {
+        build_refused("equal corners", k, &corners, 5);
+    }
+    for corner in [4, 100, 1_023, 1_024, 65_535] {
+        build_refused("a corner not in the base", k, &[0, 1, 2, corner], 5);
+    }
+    let flat = [0, 0, 0, 64, 0, 0, 64, 64, 0, 0, 64, 0];
+    build_refused("sixfold volume 0", &flat, &[0, 1, 2, 3], 5);
+    // The second piece, after a good one.
+    let five = [&k[..], &[64, 0, 64]].concat();
+    build_refused("the second piece flat", &five, &[0, 1, 2, 3, 1, 2, 3, 4], 5);
+    // Far apart, where products no longer fit 32 bits but the volume is small.
+    let thin = [-32_736, 0, 0, 32_736, 0, 0, 32_736, 32, 0, 32_736, 32, 32];
+    let mesh = build_vec(7, &thin, &[0, 1, 2, 3]).unwrap();
+    assert_eq!(check(&mesh).sixfold, 65_472 * 32 * 32);
+}
+
+#[test]
+fn refusal_7() {
+    let places: [[i16; 3]; 6] = [
+        [0, 0, 0],
+        [64, 0, 0],
+        [0, 64, 0],
+        [0, 0, 64],
+        [0, 32, -64],
+        [32, 0, -64],
+    ];
+    let coordinates = places.concat();
+    let three = [0, 1, 2, 3, 0, 1, 2, 4, 2, 5, 1, 0];
+    build_refused("a face in three", &coordinates, &three, 7);
+    assert!(build_vec(7, &coordinates[..15], &three[..8]).is_ok());
+    build_refused("twice", &K_COORDINATES, &[0, 1, 2, 3, 0, 1, 2, 3], 7);
+    build_refused(
+        "twice, turned",
+        &K_COORDINATES,
+        &[0, 1, 2, 3, 3, 1, 0, 2],
+        7,
+    );
+    // The same piece twice, not one after the other.
+    let corners = [0, 1, 2, 3, 0, 1, 4, 5, 2, 1, 0, 3];
+    build_refused("twice, apart", &coordinates, &corners, 7);
+}
+
+#[test]
+fn refusal_8() {
+    let five = [&K_COORDINATES[..], &[0, 0, 64]].concat();
+    build_refused("the last vertex unused", &five, &[0, 1, 2, 3], 8);
+    let five = [&[0, 0, 64], &K_COORDINATES[..]].concat();
+    build_refused("the first vertex unused", &five, &[1, 2, 3, 4], 8);
+    let many: Vec<i16> = (0..1_024).flat_map(grid_place).collect();
+    build_refused("1,020 vertices unused", &many, &[0, 1, 11, 110], 8);
+}
+
+#[test]
+fn refusal_20() {
+    for short in [0, 1, 20, 76] {
+        let mut out = vec![0xAA; short];
+        assert_eq!(build(7, &K_COORDINATES, &[0, 1, 2, 3], &mut out), 20);
+        assert_eq!(out, vec![0; short]);
+    }
+    for enough in [77, 78, FULL, 100_000] {
+        let mut out = vec![0xAA; enough];
+        assert_eq!(build(7, &K_COORDINATES, &[0, 1, 2, 3], &mut out), 0);
+        assert_eq!(out[..77], k());
+        assert!(out[77..].iter().all(|&byte| byte == 0));
+    }
+}
+
+#[test]
+fn every_subset_of_the_refusals_gets_the_first_that_build_tries() {
+    let order = [21, 3, 4, 5, 7, 8, 20];
+    for subset in 0..1u32 << order.len() {
+        let broken: Vec<u32> = (0..order.len())
+            .filter(|i| subset >> i & 1 == 1)
+            .map(|i| order[i])
+            .collect();
+        let breaks = |number: u32| broken.contains(&number);
+        // The cube with a piece on the outside of its face 0 1 3.
+        let mut coordinates = [cube_coordinates(64), vec![64, 0, -64]].concat();
+        let mut corners = [&CUBE_CORNERS[..], &[0, 1, 3, 8]].concat();
+        if breaks(8) {
+            coordinates.extend([320, 320, 320]);
+        }
+        if breaks(7) {
+            corners.extend([0, 2, 3, 7]);
+        }
+        if breaks(5) {
+            corners.extend([0, 1, 2, 3]);
+        }
+        if breaks(4) {
+            coordinates[5] = 16;
+        }
+        if breaks(3) {
+            corners.extend([0u16, 1, 3, 7].repeat(3_072));
+        }
+        if breaks(21) {
+            corners.push(0);
+        }
+        let length = 20 + 10 * coordinates.len() / 3 + 17 * corners.len() / 4;
+        let mut out = vec![0xAA; if breaks(20) { length - 1 } else { length }];
+        let number = build(7, &coordinates, &corners, &mut out);
+        assert_eq!(number, broken.first().copied().unwrap_or(0), "{broken:?}");
+        assert_eq!(out.iter().all(|&byte| byte == 0), number != 0);
+    }
+}
+
+#[test]
+fn marks_of_equal_lengths_go_by_vertex_numbers() {
+    // Three edges of squared length 2 · 64²: 1-2, 1-3 and 2-3.
+    let coordinates = [0, 0, 0, 64, 0, 0, 0, 64, 0, 0, 0, 64];
+    let record = |corners: &[u16]| decode(&build_vec(7, &coordinates, corners).unwrap()).records[0];
+    let r = record(&[0, 1, 2, 3]);
+    assert_eq!((r.edge, r.marks), (3, [3, 5, 4, 3]));
+    // In other slots: still the edge 1-2 first, then 1-3, then 2-3.
+    let r = record(&[3, 2, 1, 0]);
+    assert_eq!((r.edge, r.marks), (3, [3, 1, 0, 3]));
+    let r = record(&[2, 0, 3, 1]);
+    assert_eq!((r.edge, r.marks), (2, [5, 2, 2, 1]));
+    // Of equal lengths and equal lower number the smaller higher one: 0-1 and 0-2 are longest.
+    let coordinates = [0, 0, 96, 32, 0, 0, -32, 0, 0, 0, 32, 32];
+    let r = decode(&build_vec(7, &coordinates, &[3, 2, 1, 0]).unwrap()).records[0];
+    assert_eq!((r.edge, r.marks), (5, [5, 5, 4, 3]));
+    let r = decode(&build_vec(7, &coordinates, &[1, 2, 0, 3]).unwrap()).records[0];
+    assert_eq!((r.edge, r.marks), (1, [3, 1, 0, 1]));
+    // The lower number decides before the higher: 0-3 comes before 1-2.
+    let coordinates = [0, 0, 0, 64, -64, 32, 64, 64, 32, 128, 0, 0];
+    let r = decode(&build_vec(7, &coordinates, &[0, 1, 2, 3]).unwrap()).records[0];
+    assert_eq!((r.edge, r.marks), (2, [3, 2, 2, 3]));
+}
+
+#[test]
+fn marks_of_lengths_beyond_32_bits() {
+    // Squared lengths around 3 · 65,472², far above 2^32; the last bits decide.
+    let coordinates = [
+        -32_736, -32_736, -32_736, 32_736, 32_736, 32_736, 32_736, 32_704, 32_736, -32_736, 32_736,
+        -32_704,
+    ];
+    let r = decode(&build_vec(7, &coordinates, &[0, 1, 2, 3]).unwrap()).records[0];
+    // 0-1 is longest (3 · 65,472²), then 0-2; 1-3 and 2-3 differ in y only: 2-3 is longer.
+    assert_eq!((r.edge, r.marks), (0, [5, 1, 0, 0]));
+}

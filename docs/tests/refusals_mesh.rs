@@ -1,0 +1,761 @@
+//! Refusals 1 to 10: for each clause inputs that earn it, and inputs just short of it that don't.
+
+mod common;
+use common::*;
+use second::{build_vec, check};
+
+/// A copy of the bytes with some of them replaced.
+fn poked(bytes: &[u8], at: usize, new: &[u8]) -> Vec<u8> {
+    let mut bytes = bytes.to_vec();
+    bytes[at..at + new.len()].copy_from_slice(new);
+    bytes
+}
+
+/// A changed copy of a stored mesh, as bytes.
+fn changed(stored: &Stored, change: impl FnOnce(&mut Stored)) -> Vec<u8> {
+    let mut stored = stored.clone();
+    change(&mut stored);
+    stored.bytes()
+}
+
+fn k_stored() -> Stored {
+    decode(&k())
+}
+
+/// K after select 0.
+fn k1() -> Stored {
+    decode(&refined(&k(), &[0]))
+}
+
+/// K after select 0 and select 1 and 2: records 0 to 2 are cut, 3 to 6 are leaves.
+fn k2() -> Stored {
+    decode(&refined(&k1().bytes(), &[1, 2]))
+}
+
+#[test]
+fn refusal_1() {
+    let mesh = k();
+    mesh_refused("empty", &[], 1);
+    mesh_refused("19 bytes", &mesh[..19], 1);
+    mesh_refused("a header alone with counts", &mesh[..20], 1);
+    mesh_refused("one byte short", &mesh[..76], 1);
+    mesh_refused("one byte long", &[&mesh[..], &[0]].concat(), 1);
+    mesh_refused("all vertices 5", &poked(&mesh, 13, &[5]), 1);
+    mesh_refused("all records 2", &poked(&mesh, 17, &[2]), 1);
+    mesh_refused("all records 257", &poked(&mesh, 18, &[1]), 1);
+    mesh_refused("all vertices 260", &poked(&mesh, 14, &[1]), 1);
+    mesh_refused(
+        "wrong mark and wrong length",
+        &poked(&mesh, 0, b"X")[..76],
+        1,
+    );
+    mesh_refused("text", b"this is no mesh at all, only some words", 1);
+    mesh_refused("a selection", &choose(&mesh, &[0]), 1);
+    // Not earned: the base counts don't count for the length, and 20 bytes with no counts fit.
+    mesh_accepted("K", &mesh);
+    mesh_refused("base vertices 3", &poked(&mesh, 11, &[3]), 3);
+    mesh_refused("20 zeros", &[0; 20], 2);
+    mesh_refused(
+        "a header alone without counts",
+        &poked(&mesh[..20], 11, &[0; 8]),
+        3,
+    );
+}
+
+#[test]
+fn refusal_2() {
+    let mesh = k();
+    for at in 0..3 {
+        mesh_refused("mark", &poked(&mesh, at, b"t"), 2);
+    }
+    mesh_refused("a selection's mark", &poked(&mesh, 0, b"TMS"), 2);
+    mesh_refused("version 0", &poked(&mesh, 3, &[0, 0]), 2);
+    mesh_refused("version 2", &poked(&mesh, 3, &[2, 0]), 2);
+    mesh_refused("version 257", &poked(&mesh, 3, &[1, 1]), 2);
+    mesh_refused("version 256", &poked(&mesh, 3, &[0, 1]), 2);
+    mesh_refused("byte 19 is 1", &poked(&mesh, 19, &[1]), 2);
+    mesh_refused("byte 19 is 255", &poked(&mesh, 19, &[255]), 2);
+    // Not earned: job and round may be anything.
+    mesh_accepted("job and round", &poked(&mesh, 5, &[255; 6]));
+}
+
+#[test]
+fn refusal_3() {
+    let sized = |base_vertices: u16, vertices: u16, base_records: u16, records: u16| {
+        let mut bytes = k()[..20].to_vec();
+        for (at, count) in [
+            (11, base_vertices),
+            (13, vertices),
+            (15, base_records),
+            (17, records),
+        ] {
+            bytes[at..at + 2].copy_from_slice(&count.to_le_bytes());
+        }
+        bytes.resize(20 + 10 * vertices as usize + 17 * records as usize, 0);
+        bytes
+    };
+    mesh_refused("1,025 vertices", &sized(4, 1_025, 1, 1), 3);
+    mesh_refused("7,000 vertices", &sized(4, 7_000, 1, 1), 3);
+    mesh_refused("65,535 vertices", &sized(4, 65_535, 1, 1), 3);
+    mesh_refused("65,535 of each", &sized(65_535, 65_535, 65_535, 65_535), 3);
+    mesh_refused("3,073 records", &sized(4, 4, 1, 3_073), 3);
+    mesh_refused("65,535 records", &sized(4, 4, 1, 65_535), 3);
+    mesh_refused("3 base vertices", &sized(3, 4, 1, 1), 3);
+    mesh_refused("no base vertex", &sized(0, 4, 1, 1), 3);
+    mesh_refused("3 vertices", &sized(3, 3, 1, 1), 3);
+    mesh_refused("no base record", &sized(4, 4, 0, 1), 3);
+    mesh_refused("no record", &sized(4, 4, 0, 0), 3);
+    mesh_refused("nothing", &sized(0, 0, 0, 0), 3);
+    mesh_refused("base vertices above all", &sized(5, 4, 1, 1), 3);
+    mesh_refused("base records above all", &sized(4, 4, 2, 1), 3);
+    // Not earned: the least counts, and the greatest of both at once.
+    mesh_refused("least counts", &sized(4, 4, 1, 1), 4);
+    mesh_refused("greatest counts", &sized(4, 1_024, 1, 3_072), 4);
+    mesh_accepted("K", &k());
+    let (coordinates, corners) = crowded(1_024, 3_072, 5);
+    let largest = build_vec(1, &coordinates, &corners).unwrap();
+    assert_eq!(largest.len(), FULL);
+    mesh_accepted("the largest mesh", &largest);
+    assert_eq!(check(&largest).leaves, 3_072);
+    assert!(second::list(&largest).starts_with(b"job 1 round 0 vertices 1024 records 3072 "));
+}
+
+#[test]
+fn refusal_4_base() {
+    let stored = k_stored();
+    for (axis, bad) in [
+        (0, 16),
+        (1, -32_768),
+        (2, 1),
+        (0, 32_767),
+        (1, 32_752),
+        (2, -31),
+    ] {
+        let mesh = changed(&stored, |s| s.vertices[1].place[axis] = bad);
+        mesh_refused("off the grid", &mesh, 4);
+    }
+    for parents in [[0, NONE], [NONE, 0], [0, 1], [65_534, NONE], [NONE, 65_534]] {
+        let mesh = changed(&stored, |s| s.vertices[2].parents = parents);
+        mesh_refused("base parent not 65,535", &mesh, 4);
+    }
+    let mesh = changed(&stored, |s| s.vertices[3].place = s.vertices[0].place);
+    mesh_refused("two base vertices at one place", &mesh, 4);
+    // At one place, though one of the two is in no record (8) and nothing else is wrong.
+    let mesh = changed(&stored, |s| {
+        s.base_vertices = 5;
+        s.vertices.push(s.vertices[2]);
+    });
+    mesh_refused("an unused base vertex at another's place", &mesh, 4);
+    for good in [32_736, -32_736, 0, 32] {
+        let mesh = changed(&stored, |s| {
+            s.vertices[3].place[2] = good + 32 * (good == 0) as i16
+        });
+        mesh_accepted("on the grid", &mesh);
+    }
+}
+
+#[test]
+fn refusal_4_made() {
+    let stored = k1();
+    let parents = |p, q| changed(&stored, |s| s.vertices[4].parents = [p, q]);
+    mesh_refused("p above q", &parents(3, 0), 4);
+    mesh_refused("p equal to q", &parents(3, 3), 4);
+    mesh_refused("q its own number", &parents(0, 4), 4);
+    mesh_refused("q above its own number", &parents(0, 5), 4);
+    mesh_refused("parents of a base vertex", &parents(NONE, NONE), 4);
+    mesh_refused("q 65,535", &parents(0, NONE), 4);
+    mesh_refused("other parents, so not halfway", &parents(0, 2), 4);
+    for axis in 0..3 {
+        for by in [-1, 1, 32] {
+            let mesh = changed(&stored, |s| s.vertices[4].place[axis] += by);
+            mesh_refused("not exactly halfway", &mesh, 4);
+        }
+    }
+    // An odd sum has no place that is exactly halfway, neither below nor above.
+    let small: Vec<i16> = K_COORDINATES.iter().map(|x| x / 2).collect();
+    let fifteen = decode(&deepen(build_vec(7, &small, &[0, 1, 2, 3]).unwrap(), 15));
+    let split = split_edges(&fifteen);
+    // Vertices whose edge to the base vertex 3, all even, has no midpoint yet.
+    let free: Vec<u16> = (4..fifteen.vertices.len() as u16)
+        .filter(|&n| !split.contains_key(&(3, n)))
+        .collect();
+    let odd = |n: &&u16| {
+        fifteen.vertices[**n as usize]
+            .place
+            .iter()
+            .any(|x| x % 2 != 0)
+    };
+    let halved = |q: u16, up: i16| {
+        changed(&fifteen, |s| {
+            let place = s.vertices[q as usize]
+                .place
+                .map(|x| (32 + x + up).div_euclid(2));
+            s.vertices.push(Vertex {
+                place,
+                parents: [3, q],
+            });
+        })
+    };
+    let q = *free.iter().find(odd).unwrap();
+    mesh_refused("an odd sum halved down", &halved(q, 0), 4);
+    mesh_refused("an odd sum halved up", &halved(q, 1), 4);
+    let q = *free.iter().find(|n| !odd(n)).unwrap();
+    mesh_refused("an even sum, but no cut", &halved(q, 0), 9);
+    let mesh = changed(&stored, |s| s.vertices.push(s.vertices[4]));
+    mesh_refused("a parent pair used twice", &mesh, 4);
+    let cube = decode(&refined(&cube(), &[0]));
+    let mesh = changed(&cube, |s| s.vertices.push(s.vertices[8]));
+    mesh_refused("a parent pair used twice in the cube", &mesh, 4);
+    mesh_accepted("K after select 0", &stored.bytes());
+}
+
+#[test]
+fn not_4_a_made_vertex_at_another_vertexs_place() {
+    // Two pieces that overlap: 0-1 and 4-5 cross in their midpoints, and vertex 8 stands there.
+    let places = [
+        [-64, 0, 0],
+        [64, 0, 0],
+        [0, 32, 32],
+        [0, -32, 32],
+        [0, 0, -64],
+        [0, 0, 64],
+        [32, 32, 0],
+        [32, -32, 0],
+        [0, 0, 0],
+    ];
+    let edge_0 = |corners| (corners, 0, [5, 5, 0, 0]);
+    let pieces = [
+        edge_0([0, 1, 2, 3]),
+        edge_0([4, 5, 6, 7]),
+        ([8, 1, 2, 6], 0, [5, 5, 0, 0]),
+    ];
+    let mut stored = marked(&places, &pieces);
+    mesh_accepted("uncut", &stored.bytes());
+    cut_one(&mut stored, 0, Way::Right);
+    cut_one(&mut stored, 1, Way::Right);
+    assert_eq!(stored.vertices[9].place, [0, 0, 0]);
+    assert_eq!(stored.vertices[10].place, [0, 0, 0]);
+    mesh_accepted(
+        "two made vertices and a base vertex at one place",
+        &stored.bytes(),
+    );
+    // The same by refine.
+    let result = refined(&marked(&places, &pieces).bytes(), &[0, 1]);
+    assert_eq!(decode(&result).vertices, stored.vertices);
+}
+
+#[test]
+fn refusal_5() {
+    let stored = k_stored();
+    for (slot, other) in [(0, 1), (0, 2), (0, 3), (1, 2), (1, 3), (2, 3)] {
+        let mesh = changed(&stored, |s| s.records[0].corners[slot] = other);
+        mesh_refused("equal corners", &mesh, 5);
+    }
+    for corner in [4, 5, 1_023, 1_024, 65_535] {
+        let mesh = changed(&stored, |s| s.records[0].corners[2] = corner);
+        mesh_refused("a corner not in the base", &mesh, 5);
+    }
+    let mesh = changed(&k1(), |s| s.records[0].corners[1] = 4);
+    mesh_refused("a made vertex as corner of a base record", &mesh, 5);
+    let mesh = changed(&stored, |s| s.vertices[3].place = [0, 64, 0]);
+    mesh_refused("sixfold volume 0: in a plane", &mesh, 5);
+    let mesh = changed(&stored, |s| {
+        for (n, v) in s.vertices.iter_mut().enumerate() {
+            v.place = [32 * n as i16; 3];
+        }
+    });
+    mesh_refused("sixfold volume 0: on a line", &mesh, 5);
+    for generation in [1, 15, 16, 255] {
+        let mesh = changed(&stored, |s| s.records[0].generation = generation);
+        mesh_refused("generation not 0", &mesh, 5);
+    }
+    for flag in [1, 2, 255] {
+        let mesh = changed(&stored, |s| s.records[0].flag = flag);
+        mesh_refused("flag not 0", &mesh, 5);
+    }
+    let mesh = changed(&stored, |s| {
+        // Type P: even there a base record's flag is 0.
+        s.records[0].edge = 0;
+        s.records[0].marks = [3, 1, 0, 0];
+        s.records[0].flag = 1;
+    });
+    mesh_refused("flag not 0 in type P", &mesh, 5);
+    let mesh = changed(&decode(&cube()), |s| s.records[5].flag = 1);
+    mesh_refused("the last base record", &mesh, 5);
+    // Not earned: the flattest piece on the grid, and corners in any order (marked alike).
+    let mesh = changed(&stored, |s| s.vertices[3].place = [64, 64, 32]);
+    mesh_accepted("flat", &mesh);
+    assert_eq!(check(&mesh).sixfold, 64 * 64 * 32);
+    mesh_accepted(
+        "another order",
+        &build_vec(7, &K_COORDINATES, &[2, 0, 3, 1]).unwrap(),
+    );
+}
+
+#[test]
+fn refusal_6() {
+    let stored = k_stored();
+    for code in [6, 7, 128, 255] {
+        let mesh = changed(&stored, |s| s.records[0].edge = code);
+        mesh_refused("refinement edge above 5", &mesh, 6);
+        for face in 0..4 {
+            let mesh = changed(&stored, |s| s.records[0].marks[face] = code);
+            mesh_refused("mark above 5", &mesh, 6);
+        }
+    }
+    for code in 0..6u8 {
+        for face in 0..4 {
+            let (i, j) = CODES[code as usize];
+            let on_face = i != face && j != face;
+            let mesh = changed(&stored, |s| s.records[0].marks[face] = code);
+            // Faces 1 and 2 contain the refinement edge 03.
+            if !on_face {
+                mesh_refused("a mark not on its face", &mesh, 6);
+            } else if [1, 2].contains(&face) && code != 2 {
+                mesh_refused("a refinement face marked otherwise", &mesh, 6);
+            } else {
+                mesh_accepted("a mark that may be", &mesh);
+            }
+        }
+    }
+    for edge in [0, 1, 3, 4, 5] {
+        let mesh = changed(&stored, |s| s.records[0].edge = edge);
+        mesh_refused("another refinement edge", &mesh, 6);
+    }
+    let mesh = changed(&decode(&cube()), |s| s.records[5].marks[0] = 9);
+    mesh_refused("the last base record", &mesh, 6);
+}
+
+/// Two pieces on the face 0 1 2, with vertices 3 and 4 opposite, marked apart from that face.
+fn two_on_a_face(second_corners: [u16; 4], marks: (u8, u8)) -> Stored {
+    let places = [[0, 0, 0], [64, 0, 0], [0, 64, 0], [0, 0, 64], [32, 32, -64]];
+    marked(
+        &places,
+        &[
+            ([0, 1, 2, 3], 2, [4, 2, 2, marks.0]),
+            (second_corners, 2, [4, 2, 2, marks.1]),
+        ],
+    )
+}
+
+#[test]
+fn refusal_7() {
+    let places = [
+        [0, 0, 0],
+        [64, 0, 0],
+        [0, 64, 0],
+        [0, 0, 64],
+        [0, 32, -64],
+        [32, 0, -64],
+    ];
+    let coordinates = places.concat();
+    // Three on the face 0 1 2; its two sides don't matter.
+    let three = [0, 1, 2, 3, 0, 1, 2, 4, 2, 5, 1, 0];
+    build_refused("a face in three", &coordinates, &three, 7);
+    let mut stored = decode(&build_vec(7, &coordinates[..15], &three[..8]).unwrap());
+    mesh_accepted("a face in two", &stored.bytes());
+    // Stored, the third piece marked as build marks it where the face is in one piece only.
+    let alone = decode(&build_vec(7, &coordinates, &[2, 5, 1, 0, 3, 4, 5, 0]).unwrap());
+    stored.vertices.push(alone.vertices[5]);
+    stored.base_vertices = 6;
+    stored.base_records = 3;
+    stored.records.push(alone.records[0]);
+    mesh_refused("a face in three, stored", &stored.bytes(), 7);
+    let mut four = stored.clone();
+    four.records.push(Record {
+        corners: [0, 1, 2, 5],
+        ..alone.records[0]
+    });
+    four.base_records = 4;
+    mesh_refused("a face in four or the same four corners", &four.bytes(), 7);
+
+    let twice = changed(&k_stored(), |s| {
+        s.base_records = 2;
+        s.records.push(s.records[0]);
+    });
+    mesh_refused("the same record twice", &twice, 7);
+    for order in [[0, 1, 2, 3], [3, 2, 1, 0], [1, 0, 2, 3]] {
+        let corners = [&[0, 1, 2, 3], &order[..]].concat();
+        build_refused("the same four corners", &K_COORDINATES, &corners, 7);
+    }
+    let other_order = changed(&k_stored(), |s| {
+        s.base_records = 2;
+        s.records.push(Record {
+            corners: [3, 1, 2, 0],
+            edge: 2,
+            marks: [5, 2, 2, 0],
+            ..s.records[0]
+        });
+    });
+    mesh_refused("the same four corners in another order", &other_order, 7);
+
+    // The shared face 0 1 2 is face 3 of both; its mark may be 01, 02 or 12.
+    for one in [0, 1, 3] {
+        for other in [0, 1, 3] {
+            let mesh = two_on_a_face([0, 1, 2, 4], (one, other)).bytes();
+            if one == other {
+                mesh_accepted("a shared face with one mark", &mesh);
+            } else {
+                mesh_refused("a shared face with two marks", &mesh, 7);
+            }
+        }
+    }
+    // By vertex numbers, not by codes: in the slots 1 0 2 the edge 02 has code 3, and 12 code 1.
+    let slots = [1, 0, 2, 4];
+    mesh_accepted(
+        "codes 1 and 3, one edge",
+        &two_on_a_face(slots, (1, 3)).bytes(),
+    );
+    mesh_accepted(
+        "codes 3 and 1, one edge",
+        &two_on_a_face(slots, (3, 1)).bytes(),
+    );
+    mesh_refused(
+        "code 1 twice, two edges",
+        &two_on_a_face(slots, (1, 1)).bytes(),
+        7,
+    );
+    mesh_refused(
+        "code 3 twice, two edges",
+        &two_on_a_face(slots, (3, 3)).bytes(),
+        7,
+    );
+    // Three corners in common in two pairs of records, but no face in three.
+    mesh_accepted("the cube", &cube());
+}
+
+#[test]
+fn refusal_8() {
+    let mesh = changed(&k_stored(), |s| {
+        s.base_vertices = 5;
+        s.vertices.push(Vertex {
+            place: [0, 0, 64],
+            parents: [NONE; 2],
+        });
+    });
+    mesh_refused("a fifth base vertex", &mesh, 8);
+    let mesh = changed(&decode(&cube()), |s| {
+        // Without the two records of vertex 4.
+        s.records.truncate(4);
+        s.base_records = 4;
+    });
+    mesh_refused("the cube without two pieces", &mesh, 8);
+    let mesh = changed(&k_stored(), |s| {
+        s.base_vertices = 1_024;
+        s.vertices = (0..1_024u16)
+            .map(|n| Vertex {
+                place: grid_place(n),
+                parents: [NONE; 2],
+            })
+            .collect();
+        s.records[0].corners = [0, 1, 11, 110];
+    });
+    mesh_refused("1,020 unused vertices", &mesh, 8);
+    // Not earned by a vertex in one record alone.
+    mesh_accepted("K", &k());
+    mesh_accepted("the cube", &cube());
+}
+
+#[test]
+fn refusal_9_children() {
+    let stored = k2();
+    mesh_accepted("K after two rounds", &stored.bytes());
+    for n in 1..7 {
+        for slot in 0..4 {
+            for corner in [0, 1, 2, 3, 6, 7, 1_024, 65_535] {
+                if stored.records[n].corners[slot] != corner {
+                    let mesh = changed(&stored, |s| s.records[n].corners[slot] = corner);
+                    mesh_refused("corner of a child", &mesh, 9);
+                }
+            }
+        }
+        for code in [0, 1, 2, 3, 4, 5, 6, 200, 255] {
+            if stored.records[n].edge != code {
+                let mesh = changed(&stored, |s| s.records[n].edge = code);
+                mesh_refused("edge of a child", &mesh, 9);
+            }
+            for face in 0..4 {
+                if stored.records[n].marks[face] != code {
+                    let mesh = changed(&stored, |s| s.records[n].marks[face] = code);
+                    mesh_refused("mark of a child", &mesh, 9);
+                }
+            }
+        }
+        for flag in [0, 1, 2, 255] {
+            if stored.records[n].flag != flag {
+                let mesh = changed(&stored, |s| s.records[n].flag = flag);
+                mesh_refused("flag of a child", &mesh, 9);
+            }
+        }
+        for generation in [0, 1, 2, 3, 15, 16, 255] {
+            if stored.records[n].generation != generation {
+                let mesh = changed(&stored, |s| s.records[n].generation = generation);
+                mesh_refused("generation of a child", &mesh, 9);
+            }
+        }
+    }
+    let mesh = changed(&stored, |s| s.records.swap(3, 4));
+    mesh_refused("children swapped", &mesh, 9);
+    // The marks of the base record changed to another type: the children no longer fit.
+    let mesh = changed(&stored, |s| s.records[0].marks[0] = 3);
+    mesh_refused("the parent's marks", &mesh, 9);
+}
+
+#[test]
+fn refusal_9_numbers() {
+    let stored = k2();
+    for (n, child) in [
+        (0, 0),
+        (0, 2),
+        (0, 3),
+        (0, 6),
+        (0, 7),
+        (0, 65_534),
+        (1, 1),
+        (1, 0),
+        (1, 5),
+        (2, 3),
+        (2, 6),
+        (6, 3),
+        (6, 6),
+        (3, 7),
+        (3, 4),
+        (3, 1),
+    ] {
+        let mesh = changed(&stored, |s| s.records[n].first_child = child);
+        mesh_refused("number of the first child", &mesh, 9);
+    }
+    for n in 0..3 {
+        let mesh = changed(&stored, |s| s.records[n].first_child = NONE);
+        mesh_refused("a parent uncut, its children left", &mesh, 9);
+    }
+    // In the cube every base record may take another base record for its child only by mistake.
+    let mesh = changed(&decode(&cube()), |s| s.records[0].first_child = 1);
+    mesh_refused("a base record as child", &mesh, 9);
+    let mesh = changed(&decode(&cube()), |s| s.records[5].first_child = 6);
+    mesh_refused("a child past the end", &mesh, 9);
+
+    // Children below their parent, all else right: records 3 and 4 come first.
+    let order = [0, 3, 4, 1, 2, 5, 6];
+    mesh_refused(
+        "children below their parent",
+        &renumbered(&stored, order),
+        9,
+    );
+    // Children above their parent in another order than refine's: accepted.
+    let order = [0, 1, 2, 5, 6, 3, 4];
+    let mesh = renumbered(&stored, order);
+    assert_ne!(mesh, stored.bytes());
+    mesh_accepted("another order", &mesh);
+    assert_eq!(check(&mesh), check(&stored.bytes()));
+}
+
+/// The same records in another order: place n gets the old record order[n].
+fn renumbered(stored: &Stored, order: [usize; 7]) -> Vec<u8> {
+    changed(stored, |s| {
+        let new_number = |old: u16| order.iter().position(|&n| n == old as usize).unwrap();
+        s.records = order
+            .iter()
+            .map(|&old| {
+                let mut r = stored.records[old];
+                if r.first_child != NONE {
+                    r.first_child = new_number(r.first_child) as u16;
+                }
+                r
+            })
+            .collect();
+    })
+}
+
+#[test]
+fn refusal_9_a_record_that_is_no_child() {
+    let stored = k1();
+    let mesh = changed(&stored, |s| s.records.push(s.records[2]));
+    mesh_refused("a record more", &mesh, 9);
+    let mesh = changed(&stored, |s| s.records.extend([s.records[1], s.records[2]]));
+    mesh_refused("two records more", &mesh, 9);
+    let mesh = changed(&k_stored(), |s| s.records.push(s.records[0]));
+    mesh_refused("a record beyond the base like a base record", &mesh, 9);
+    let mesh = changed(&k_stored(), |s| {
+        s.records.push(Record {
+            corners: [60_000; 4],
+            edge: 99,
+            marks: [99; 4],
+            flag: 99,
+            generation: 3,
+            first_child: 1,
+        })
+    });
+    mesh_refused("a record of nonsense that is its own child", &mesh, 9);
+    // The child of two: both children of the cube's records 0 and 1 entered for record 0's.
+    let cut = decode(&refined(&cube(), &[0]));
+    let mesh = changed(&cut, |s| {
+        s.records[1].first_child = s.records[0].first_child
+    });
+    mesh_refused("the child of two", &mesh, 9);
+    let mesh = changed(&cut, |s| {
+        s.records[1].first_child = s.records[0].first_child + 1
+    });
+    mesh_refused("a second child that is a first child too", &mesh, 9);
+}
+
+#[test]
+fn refusal_9_a_made_vertex_of_no_cut() {
+    let stored = k1();
+    let made = |p: u16, q: u16| {
+        changed(&stored, |s| {
+            let [a, b] = [p, q].map(|n| s.vertices[n as usize].place);
+            s.vertices.push(Vertex {
+                place: [0, 1, 2].map(|i| (a[i] + b[i]) / 2),
+                parents: [p, q],
+            })
+        })
+    };
+    // 0-1 is an edge of leaf 1, so it hangs as well (10); 0-4 is an edge; 3-4 too.
+    mesh_refused("the midpoint of an uncut edge", &made(0, 1), 9);
+    mesh_refused("the midpoint of 0-4", &made(0, 4), 9);
+    mesh_refused("the midpoint of 3-4", &made(3, 4), 9);
+    let mesh = changed(&k_stored(), |s| {
+        s.vertices.push(Vertex {
+            place: [32, 32, 32],
+            parents: [0, 3],
+        })
+    });
+    mesh_refused("the midpoint of an uncut refinement edge", &mesh, 9);
+    // By parent pairs, not places: 0-7 and 1-6 have the same midpoint in the cube.
+    let cut = decode(&refined(&cube(), &[0]));
+    let mesh = changed(&cut, |s| s.vertices[8].parents = [1, 6]);
+    mesh_refused("a midpoint by place only", &mesh, 9);
+    let mesh = changed(&cut, |s| {
+        s.vertices.push(Vertex {
+            place: [32, 32, 32],
+            parents: [1, 6],
+        })
+    });
+    mesh_refused("a second vertex at the midpoint's place", &mesh, 9);
+    // A vertex missing for a cut record.
+    let mesh = changed(&k2(), |s| {
+        s.vertices.truncate(6);
+    });
+    mesh_refused("no vertex with that parent pair", &mesh, 9);
+}
+
+#[test]
+fn refusal_9_a_generation_above_15() {
+    // Twice as large as K, so that halving stays exact even beyond 15.
+    let large: Vec<i16> = K_COORDINATES.iter().map(|x| 2 * x).collect();
+    let fifteen = decode(&deepen(build_vec(7, &large, &[0, 1, 2, 3]).unwrap(), 15));
+    mesh_accepted("generation 15", &fifteen.bytes());
+    assert_eq!(check(&fifteen.bytes()).deepest, 15);
+    // Cut further by hand and closed, so that the generation alone is wrong.
+    let mut sixteen = fifteen.clone();
+    let mut pass = vec![deepest_leaf(&fifteen.bytes())];
+    while !pass.is_empty() {
+        pass.iter()
+            .for_each(|&n| cut_one(&mut sixteen, n, Way::Right));
+        pass = hanging_leaves(&sixteen, Way::Right);
+    }
+    assert!(sixteen.vertices.len() <= 1_024 && sixteen.records.len() <= 3_072);
+    let deepest = sixteen.records.iter().map(|r| r.generation).max();
+    assert!(deepest >= Some(16));
+    mesh_refused("generation 16", &sixteen.bytes(), 9);
+    // A leaf of generation 255 is not what cutting gives either.
+    let leaf = deepest_leaf(&fifteen.bytes()) as usize;
+    for generation in [16, 255] {
+        let mesh = changed(&fifteen, |s| s.records[leaf].generation = generation);
+        mesh_refused("a leaf's generation", &mesh, 9);
+    }
+}
+
+#[test]
+fn refusal_10() {
+    // The cube with one of six cut: the diagonal hangs in the others, where its code is 2.
+    for cut in 0..6 {
+        let mut stored = decode(&cube());
+        cut_one(&mut stored, cut, Way::Right);
+        let first = if cut == 0 { 1 } else { 0 };
+        mesh_refused_at("one of six", &stored.bytes(), 10, (first, 2));
+    }
+    let mut stored = decode(&cube());
+    for (cut, first) in [(0, 1), (1, 2), (3, 2), (2, 4), (4, 5)] {
+        cut_one(&mut stored, cut, Way::Right);
+        mesh_refused_at("more of six", &stored.bytes(), 10, (first, 2));
+    }
+    cut_one(&mut stored, 5, Way::Right);
+    mesh_accepted("all six", &stored.bytes());
+
+    // A leaf that isn't in the base: K after two rounds, 4 cut and 5 not. 5 is 4 1 2 6: code 3.
+    let mut stored = k2();
+    cut_one(&mut stored, 4, Way::Right);
+    mesh_refused_at("record 5", &stored.bytes(), 10, (5, 3));
+    cut_one(&mut stored, 5, Way::Right);
+    mesh_accepted("5 cut too", &stored.bytes());
+}
+
+#[test]
+fn refusal_10_places() {
+    // Two pieces with only the edge 0-1 in common, the refinement edge of both, in any slots.
+    let places = [
+        [0, 0, 0],
+        [96, 0, 0],
+        [32, 32, 0],
+        [32, 0, 32],
+        [32, -32, 0],
+        [32, 0, -32],
+    ];
+    let coordinates = places.concat();
+    for (corners, code) in [
+        ([0, 1, 2, 3], 0),
+        ([0, 2, 1, 3], 1),
+        ([1, 2, 3, 0], 2),
+        ([2, 1, 0, 3], 3),
+        ([2, 0, 3, 1], 4),
+        ([3, 2, 1, 0], 5),
+    ] {
+        let pieces = [&corners[..], &[0, 1, 4, 5]].concat();
+        let mut stored = decode(&build_vec(7, &coordinates, &pieces).unwrap());
+        cut_one(&mut stored, 1, Way::Right);
+        mesh_refused_at("a place", &stored.bytes(), 10, (0, code));
+        assert_eq!(
+            refined(&build_vec(7, &coordinates, &pieces).unwrap(), &[1]).len(),
+            20 + 70 + 6 * 17
+        );
+    }
+    // A leaf that hangs on three edges, none of them its refinement edge: the least code.
+    let places = [
+        [0, 0, 0],
+        [64, 0, 0],
+        [0, 64, 0],
+        [0, 0, 64],
+        [0, -32, -32],
+        [32, -64, -32],
+        [-32, 32, -32],
+        [-64, 0, -32],
+        [-32, -64, 64],
+        [-64, -32, 32],
+    ];
+    let o = |corners, edge: u8, marks| (corners, edge, marks);
+    let pieces = [
+        // 12 is the refinement edge.
+        o([0, 1, 2, 3], 3, [3, 1, 0, 3]),
+        // 0-1, 0-2 and 0-3 are the refinement edges of three more pieces.
+        o([0, 1, 4, 5], 0, [5, 5, 0, 0]),
+        o([0, 2, 6, 7], 0, [5, 5, 0, 0]),
+        o([0, 3, 8, 9], 0, [5, 5, 0, 0]),
+    ];
+    let mesh = marked(&places, &pieces);
+    mesh_accepted("four pieces", &mesh.bytes());
+    for (cuts, code) in [
+        (&[3u16][..], 2),
+        (&[2], 1),
+        (&[2, 3], 1),
+        (&[1], 0),
+        (&[1, 2, 3], 0),
+        (&[3, 1], 0),
+    ] {
+        let mut stored = mesh.clone();
+        cuts.iter()
+            .for_each(|&n| cut_one(&mut stored, n, Way::Right));
+        mesh_refused_at("the least code", &stored.bytes(), 10, (0, code));
+    }
+}
