@@ -90,6 +90,10 @@ module _ (P : ℕ → Bool) where
   pub all-next : (i : ℕ) → allBelow i P ≡ true → P i ≡ true → allBelow (i + 1) P ≡ true
   all-next i inv here = rw (add-one, all-suc, inv, here)
 
+  -- where a loop came to the end
+  pub all-end : (n i : ℕ) → n ≤ i → i ≤ n → allBelow i P ≡ true → allBelow n P ≡ true
+  all-end n i h l all = subst (λ (j : ℕ). allBelow j P ≡ true) (le-antisymm l h) all
+
   -- it holds at each
   pub all-at : (n k : ℕ) → allBelow n P ≡ true → k < n → P k ≡ true
   all-at zero k e h = absurd (not-suc-le-zero h)
@@ -130,6 +134,10 @@ module _ (P : ℕ → Bool) where
 
   pub any-next : (i : ℕ) → anyBelow i P ≡ false → P i ≡ false → anyBelow (i + 1) P ≡ false
   any-next i inv here = rw (add-one, any-suc, inv, here)
+
+  -- where a loop came to the end
+  pub any-end : (n i : ℕ) → n ≤ i → i ≤ n → anyBelow i P ≡ false → anyBelow n P ≡ false
+  any-end n i h l none = subst (λ (j : ℕ). anyBelow j P ≡ false) (le-antisymm l h) none
 
   -- it fails at each
   pub any-fails-at : (n k : ℕ) → anyBelow n P ≡ false → k < n → P k ≡ false
@@ -178,6 +186,10 @@ abbrev pub bit : Bool → ℕ
 bit true = 1
 bit false = 0
 
+pub bit-small : (b : Bool) → bit b ≤ 1
+bit-small true = omega arith
+bit-small false = omega arith
+
 -- How many numbers below n there are of which P holds.
 unfoldable pub countBelow : ℕ → (ℕ → Bool) → ℕ
 countBelow n P = sumBelow n (λ k. bit (P k))
@@ -215,6 +227,13 @@ module _ (f : ℕ → ℕ) where
   sum-at-most zero b h = rw sum-none (omega arith)
   sum-at-most (suc n) b h = rw sum-suc (omega (arith, sum-at-most n b (λ k l. h k (omega arith)), h n (le-refl (suc n))))
 
+  -- each number is at most the sum
+  pub sum-at-least : (n k : ℕ) → k < n → f k ≤ sumBelow n f
+  sum-at-least zero k h = absurd (not-suc-le-zero h)
+  sum-at-least (suc n) k h =
+      rw sum-suc
+      (⊎-elim (λ q. subst (λ (j : ℕ). f j ≤ sumBelow n f + f n) (sym q) (omega arith)) (λ l. omega (arith, sum-at-least n k l)) (last-or-before h))
+
 module _ (P : ℕ → Bool) where
   pub count-none : countBelow 0 P ≡ 0
   unfolding countBelow
@@ -234,10 +253,6 @@ module _ (P : ℕ → Bool) where
   pub count-at-most : (n : ℕ) → countBelow n P ≤ n
   count-at-most zero = rw count-none (omega arith)
   count-at-most (suc n) = rw count-suc (omega (arith, count-at-most n, bit-small (P n)))
-    where
-      bit-small : (b : Bool) → bit b ≤ 1
-      bit-small true = omega arith
-      bit-small false = omega arith
 
 -- ---- the first
 

@@ -1,2 +1,4 @@
 -- Facts about lists, bounded quantifiers, loops and bytes as numbers, each stated once.
 pub mod Below
+pub mod Lists
+pub mod Numbers

@@ -186,7 +186,7 @@ same-pair x y x′ y′ e =
     (either (eqb x x′ && eqb y y′))
 
 -- Every slot of every code is below 4.
-slots-small : (e : ℕ) → (lowSlot e < 4) × (highSlot e < 4)
+pub slots-small : (e : ℕ) → (lowSlot e < 4) × (highSlot e < 4)
 unfolding lowSlot highSlot
 slots-small zero = omega arith
 slots-small (suc zero) = omega arith

@@ -1,8 +1,8 @@
 // The marked piece of document 01 by value, and the cut.
 ghost use mathlib.Core.Path.{_≡_};
 ghost use Rattle.piece.specs.Edges.{lowSlot, highSlot, hasSlot, otherEnd, joins, edgeBetween, onFace, opposite, oppositeOn, shares, sharedSlot};
-ghost use Rattle.piece.specs.Shape.{shapeOf, mark, otherMarksAre, typeP, setP};
-ghost use Rattle.piece.specs.Cut.{childCorners, newMark, childFlag, childMark, childOf, cornerAt, lowerEnd, higherEnd, endsOf, cutOf};
+ghost use Rattle.piece.specs.Shape.{shapeOf, mark, otherMarksAre, typeP, setP, markFits};
+ghost use Rattle.piece.specs.Cut.{childCorners, newMark, childFlag, childMark, childOf, cornerAt, lowerEnd, higherEnd, endsOf, cutOf, sameSlot, sameSlots, samePiece};
 
 pub struct Piece {
     // Vertex numbers in slots 0 to 3.
@@ -76,6 +76,19 @@ pub fn on_face(e: u8, i: u8) -> bool
     false
 }
 
+// Whether m may be the mark of face i of a piece with this refinement edge.
+pub fn mark_fits(edge: u8, m: u8, i: u8) -> bool
+    ensures { λ r. ⌜ r ≡ markFits edge m i ⌝ }
+{
+    if !on_face(m, i) {
+        return false;
+    }
+    if !on_face(edge, i) {
+        return true;
+    }
+    m == edge
+}
+
 fn joined_by(e: u8, j: u8, k: u8) -> bool
     ensures { λ r. ⌜ r ≡ joins j k e ⌝ }
 {
@@ -146,7 +159,7 @@ fn shared_slot(e: u8, f: u8) -> u8
 }
 
 // The marked edge of face i.
-fn mark_of(p: Piece, i: u8) -> u8
+pub fn mark_of(p: Piece, i: u8) -> u8
     ensures { λ r. ⌜ r ≡ mark (shapeOf p) i ⌝ }
 {
     let at = i as usize;
@@ -307,4 +320,42 @@ pub fn cut(p: Piece, w: u32) -> Children
         first: child(p, w, higher_end(p, p.edge)),
         second: child(p, w, lower_end(p, p.edge)),
     }
+}
+
+fn same_slot(p: Piece, q: Piece, k: u8) -> bool
+    ensures { λ r. ⌜ r ≡ sameSlot p q k ⌝ }
+{
+    if corner(p, k) != corner(q, k) {
+        return false;
+    }
+    mark_of(p, k) == mark_of(q, k)
+}
+
+fn same_slots(p: Piece, q: Piece) -> bool
+    ensures { λ r. ⌜ r ≡ sameSlots p q ⌝ }
+{
+    let mut k: u8 = 0;
+    while k < 4 {
+        if !same_slot(p, q, k) {
+            return false;
+        }
+        k += 1;
+    }
+    true
+}
+
+// Whether two pieces are the same: corners in their slots, marks, edge, flag and generation.
+pub fn same_piece(p: Piece, q: Piece) -> bool
+    ensures { λ r. ⌜ r ≡ samePiece p q ⌝ }
+{
+    if p.edge != q.edge {
+        return false;
+    }
+    if p.flag != q.flag {
+        return false;
+    }
+    if p.generation != q.generation {
+        return false;
+    }
+    same_slots(p, q)
 }

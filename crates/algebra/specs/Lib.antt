@@ -1,0 +1,4 @@
+pub mod Ring
+pub mod Solver
+pub mod Absolute
+pub mod Multiple

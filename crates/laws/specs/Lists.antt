@@ -1,0 +1,271 @@
+-- Laws of lists that recur and that the kit's lists don't have: entries of one width, runs that are written, copies that go on
+-- turn by turn, and lists of bytes.
+use mathlib.Core.Path.{_≡_, refl, sym, ap, _∙_}
+use Prim.Native.Nat.{ℕ, zero, suc, _+_, _-_, _*_, _≤_, _<_, min, suc-le-suc}
+use mathlib.Core.Logic.{⊎-elim, _≢_}
+use native.Mathlib.Nat.{zero-add, mul-le-mul-left, mul-zero, mul-suc, add-suc, suc-add, add-zero, add-comm, le-of-suc-le-suc, not-suc-le-zero, le-refl}
+use native.Mathlib.Numerals.{add-one}
+use native.Mathlib.Decide.{ℕ-discrete}
+use native.Mathlib.Omega.{arith}
+use mathlib.Core.List.{List, [], _∷_, _++_, append-assoc, append-nil}
+use lib.ListN.{length, getD, take, drop, set, replicate, length-append, length-set, length-replicate, getD-replicate, take-append-drop, drop-of-length-le}
+use lib.Seq.{sets, length-sets, sets-eq, set-out, drop-set-lt, take-set-le, take-add, take-suc, take-all, take-nil, ext-getD, getD-set-same, getD-set-other, drop-cons, drop-drop, drop-at, drop-append-add, length-take-le}
+use lib.Dec.{lit<, leb, ltb}
+use borrow.Author.Tests.{leb-true, leb-false, ltb-true, ltb-false}
+use Rattle.laws.specs.Below.{either, listBelow, list-none, list-suc, list-same, list-length, list-at}
+
+-- ---- parts
+
+module _ {ℓ} {A : Type ℓ} where
+  -- a part and the part right after it
+  pub take-run : (n m at : ℕ) (s : List A) → take n (drop at s) ++ take m (drop (at + n) s) ≡ take (n + m) (drop at s)
+  take-run n m at s = rw (← drop-drop n at s) (sym (take-add n m (drop at s)))
+
+  -- the part of one element
+  pub take-one : (at : ℕ) (s : List A) (d : A) → at < length s → getD s at d ∷ [] ≡ take 1 (drop at s)
+  take-one at s d h = rw (drop-cons s at d h)
+
+  -- a part of the front
+  pub drop-take : (at n : ℕ) (s : List A) → drop at (take (at + n) s) ≡ take n (drop at s)
+  drop-take zero n s = rw (zero-add n)
+  drop-take (suc at) n [] = rw (suc-add at n) (sym (take-nil n))
+  drop-take (suc at) n (x ∷ xs) = rw (suc-add at n) (drop-take at n xs)
+
+  -- a list of four is its four elements
+  pub four-of : (s : List A) (d : A) → length s ≡ 4 → getD s 0 d ∷ getD s 1 d ∷ getD s 2 d ∷ getD s 3 d ∷ [] ≡ s
+  four-of s d h =
+      ext-getD d (getD s 0 d ∷ getD s 1 d ∷ getD s 2 d ∷ getD s 3 d ∷ []) s (sym h) at
+    where
+      at : (k : ℕ) → k < 4 → getD (getD s 0 d ∷ getD s 1 d ∷ getD s 2 d ∷ getD s 3 d ∷ []) k d ≡ getD s k d
+      at zero l = refl
+      at (suc zero) l = refl
+      at (suc (suc zero)) l = refl
+      at (suc (suc (suc zero))) l = refl
+      at (suc (suc (suc (suc k)))) l = absurd (not-suc-le-zero (le-of-suc-le-suc (le-of-suc-le-suc (le-of-suc-le-suc (le-of-suc-le-suc l)))))
+
+-- ---- entries, one after the other
+
+-- f of each element of a list, one after the other.
+unfoldable pub joined {ℓ κ} : {A : Type ℓ} {B : Type κ} → (A → List B) → List A → List B
+joined f [] = []
+joined f (x ∷ xs) = f x ++ joined f xs
+
+module _ {ℓ κ} {A : Type ℓ} {B : Type κ} (f : A → List B) where
+  pub joined-append : (a b : List A) → joined f (a ++ b) ≡ joined f a ++ joined f b
+  unfolding joined
+  joined-append [] b = refl
+  joined-append (x ∷ xs) b = ap (λ (r : List B). f x ++ r) (joined-append xs b) ∙ sym (append-assoc (f x) (joined f xs) (joined f b))
+
+  -- entries of one width make up what they are the entries of
+  pub joined-below : (w n : ℕ) (g : ℕ → A) (t : List B) → ((i : ℕ) → i < n → f (g i) ≡ take w (drop (w * i) t)) → joined f (listBelow n g) ≡ take (w * n) t
+  unfolding joined
+  joined-below w zero g t h = rw (list-none g, mul-zero w)
+  joined-below w (suc n) g t h =
+      rw (list-suc g n, joined-append (listBelow n g) (g n ∷ []), joined-below w n g t (λ i l. h i (omega arith)), mul-suc w n)
+      (ap (λ (r : List B). take (w * n) t ++ r) (append-nil (f (g n)) ∙ h n (le-refl (suc n))) ∙ sym (take-add (w * n) w t))
+
+  module _ (w : ℕ) (wide : (x : A) → length (f x) ≡ w) where
+    pub joined-length : (l : List A) → length (joined f l) ≡ w * length l
+    unfolding joined
+    joined-length [] = sym (mul-zero w)
+    joined-length (x ∷ xs) = rw (length-append (f x) (joined f xs), wide x, joined-length xs, mul-suc w (length xs)) (add-comm w (w * length xs))
+
+    -- past i entries stand the others
+    pub joined-drop : (l : List A) (rest : List B) (i : ℕ) → i ≤ length l → drop (w * i) (joined f l ++ rest) ≡ joined f (drop i l) ++ rest
+    unfolding joined
+    joined-drop l rest zero h = rw (mul-zero w)
+    joined-drop [] rest (suc i) h = absurd (not-suc-le-zero h)
+    joined-drop (x ∷ xs) rest (suc i) h =
+        rw (mul-suc w i, add-comm (w * i) w, append-assoc (f x) (joined f xs) rest, ← wide x)
+        (drop-append-add (f x) (joined f xs ++ rest) (length (f x) * i) ∙ rw (wide x) (joined-drop xs rest i (le-of-suc-le-suc h)))
+
+    -- entry i, and what follows it
+    pub joined-at : (l : List A) (rest : List B) (i : ℕ) (d : A) → i < length l → drop (w * i) (joined f l ++ rest) ≡ f (getD l i d) ++ (joined f (drop (suc i) l) ++ rest)
+    unfolding joined
+    joined-at l rest i d h =
+        joined-drop l rest i (omega arith)
+        ∙ ap (λ (r : List A). joined f r ++ rest) (drop-cons l i d h)
+        ∙ append-assoc (f (getD l i d)) (joined f (drop (suc i) l)) rest
+
+-- ---- a run that is written
+
+module _ {ℓ} {A : Type ℓ} where
+  -- one run after the other
+  pub sets-append : (t : List A) (at : ℕ) (a b : List A) → sets t at (a ++ b) ≡ sets (sets t at a) (at + length a) b
+  sets-append t at [] b = rw (add-zero at)
+  sets-append t at (x ∷ xs) b = sets-append (set t at x) (suc at) xs b ∙ ap (λ (k : ℕ). sets (sets (set t at x) (suc at) xs) k b) (suc-add at (length xs) ∙ sym (add-suc at (length xs)))
+
+  -- what stands before it is as it was, and so is what stands after it
+  pub sets-before : (t : List A) (at : ℕ) (b : List A) (n : ℕ) → n ≤ at → take n (sets t at b) ≡ take n t
+  sets-before t at [] n h = refl
+  sets-before t at (x ∷ xs) n h = sets-before (set t at x) (suc at) xs n (omega arith) ∙ take-set-le n t at x h
+
+  pub sets-after : (t : List A) (at : ℕ) (b : List A) (n : ℕ) → at + length b ≤ n → drop n (sets t at b) ≡ drop n t
+  sets-after t at [] n h = refl
+  sets-after t at (x ∷ xs) n h = sets-after (set t at x) (suc at) xs n (omega arith) ∙ drop-set-lt n t at x (omega arith)
+
+  -- the run is read back
+  pub sets-run : (t : List A) (at : ℕ) (b : List A) → at + length b ≤ length t → drop at (sets t at b) ≡ b ++ drop (at + length b) t
+  sets-run t at b h =
+      ap (drop at) (sets-eq b t at h ∙ append-assoc (take at t) b (drop (at + length b) t))
+      ∙ drop-at (take at t) (b ++ drop (at + length b) t) at (length-take-le at t (omega arith))
+
+  -- a part that ends before the run is as it was (what begins after it, by `sets-after`)
+  pub sets-part-before : (t : List A) (at : ℕ) (b : List A) (from n : ℕ) → from + n ≤ at → take n (drop from (sets t at b)) ≡ take n (drop from t)
+  sets-part-before t at b from n h =
+      sym (drop-take from n (sets t at b)) ∙ ap (drop from) (sets-before t at b (from + n) h) ∙ drop-take from n t
+
+  -- past the end nothing is written
+  pub sets-out : (t : List A) (at : ℕ) (b : List A) → length t ≤ at → sets t at b ≡ t
+  sets-out t at [] h = refl
+  sets-out t at (x ∷ xs) h = rw (set-out t at x h) (sets-out t (suc at) xs (omega arith))
+
+  -- ---- a copy, turn by turn
+
+  -- d, with s's first n elements written from at. It is shut: a loop's proof cites its laws.
+  pub copied : List A → ℕ → List A → ℕ → List A
+  copied d at s n = sets d at (take n s)
+
+  module _ (d : List A) (at : ℕ) (s : List A) where
+    pub copied-none : copied d at s 0 ≡ d
+    unfolding copied
+    copied-none = refl
+
+    -- one more turn
+    pub copied-next : (i : ℕ) (z : A) → i < length s → set (copied d at s i) (at + i) (getD s i z) ≡ copied d at s (i + 1)
+    unfolding copied
+    copied-next i z h =
+        rw (add-one i, take-suc s i z h, sets-append d at (take i s) (getD s i z ∷ []), length-take-le i s (omega arith))
+
+    pub copied-length : (n : ℕ) → length (copied d at s n) ≡ length d
+    unfolding copied
+    copied-length n = length-sets d at (take n s)
+
+    -- it is done where all of s is written, and where d is full
+    pub copied-all : (n : ℕ) → length s ≤ n → copied d at s n ≡ sets d at s
+    unfolding copied
+    copied-all n h = ap (sets d at) (take-all n s h)
+
+    pub copied-full : (n : ℕ) → n ≤ length s → length d ≤ at + n → copied d at s n ≡ sets d at s
+    unfolding copied
+    copied-full n h full =
+        sym (sets-out (sets d at (take n s)) (at + n) (drop n s) (rw (length-sets d at (take n s)) full))
+        ∙ ap (λ (k : ℕ). sets (sets d at (take n s)) (at + k) (drop n s)) (sym (length-take-le n s h))
+        ∙ sym (sets-append d at (take n s) (drop n s))
+        ∙ ap (sets d at) (take-append-drop n s)
+
+    -- and so with as many as there are, or as there is room for
+    pub copied-whole : (n : ℕ) → n ≡ min (length s) (length d - at) → copied d at s n ≡ sets d at s
+    copied-whole n e =
+        ⊎-elim
+        (λ all. let room : length s ≤ length d - at = leb-true (length s) (length d - at) all in copied-all n (omega arith))
+        (λ full. let short : length d - at < length s = leb-false (length s) (length d - at) full in copied-full n (omega arith) (omega arith))
+        (either (leb (length s) (length d - at)))
+
+  -- clearing is the copy of n times z: one more turn
+  pub cleared-next : (d : List A) (at n i : ℕ) (z : A) → i < n → set (copied d at (replicate n z) i) (at + i) z ≡ copied d at (replicate n z) (i + 1)
+  cleared-next d at n i z h =
+      ap (set (copied d at (replicate n z) i) (at + i)) (sym (getD-replicate n i z z h))
+      ∙ copied-next d at (replicate n z) i z (rw (length-replicate n z) h)
+
+  -- s copied to the front, and the rest cleared
+  pub copied-cleared : (d s : List A) (z : A) → length s ≤ length d → sets (sets d 0 s) (length s) (replicate (length d - length s) z) ≡ s ++ replicate (length d - length s) z
+  copied-cleared d s z h =
+      let rest : List A = replicate (length d - length s) z in
+      let long : length rest ≡ length d - length s = length-replicate (length d - length s) z in
+      ap (λ (k : ℕ). sets (sets d 0 s) k rest) (sym (zero-add (length s)))
+      ∙ sym (sets-append d 0 s rest)
+      ∙ sets-eq (s ++ rest) d 0 (rw (length-append s rest, long) (omega arith))
+      ∙ ap (λ (r : List A). [] ++ (s ++ rest) ++ r) (drop-of-length-le d {i = 0 + length (s ++ rest)} (rw (length-append s rest, long) (omega arith)))
+      ∙ append-nil (s ++ rest)
+
+-- ---- a table of entries of one width, one of which is written
+
+module _ {ℓ κ} {A : Type ℓ} {B : Type κ} (from : List B → A) (bytes : A → List B) (w : ℕ) (wide : (x : A) → length (bytes x) ≡ w) where
+  -- the entry is read back where it lies within the table
+  pub entry-same : (t : List B) (i : ℕ) (x : A) → ((rest : List B) → from (bytes x ++ rest) ≡ x) → w * i + w ≤ length t → from (drop (w * i) (sets t (w * i) (bytes x))) ≡ x
+  entry-same t i x again h = rw (sets-run t (w * i) (bytes x) (rw (wide x) h)) (again (drop (w * i + length (bytes x)) t))
+
+  -- everything after it is as it was (everything before it, by `sets-before`)
+  pub entry-after : (t : List B) (i : ℕ) (x : A) (n : ℕ) → w * i + w ≤ n → drop n (sets t (w * i) (bytes x)) ≡ drop n t
+  entry-after t i x n h = sets-after t (w * i) (bytes x) n (rw (wide x) h)
+
+  -- and so is every other entry, since an entry is told by its own bytes
+  pub entry-other : ((s : List B) → from (take w s) ≡ from s) → (t : List B) (i j : ℕ) (x : A) → j ≢ i → from (drop (w * j) (sets t (w * i) (bytes x))) ≡ from (drop (w * j) t)
+  entry-other front t i j x ne =
+      ⊎-elim
+      (λ l.
+      sym (front (drop (w * j) (sets t (w * i) (bytes x))))
+      ∙ ap from (sets-part-before t (w * i) (bytes x) (w * j) w (next j i (ltb-true j i l)))
+      ∙ front (drop (w * j) t))
+      (λ g. ap from (entry-after t i x (w * j) (next i j (omega (arith, ltb-false j i g)))))
+      (either (ltb j i))
+    where
+      next : (a b : ℕ) → a < b → w * a + w ≤ w * b
+      next a b l = rw (← mul-suc w a) (mul-le-mul-left w l)
+
+-- ---- a list by its elements, one of which is changed, or follows
+
+module _ {ℓ} {A : Type ℓ} (f g : ℕ → A) where
+  pub list-set : (n i : ℕ) (x : A) → i < n → g i ≡ x → ((k : ℕ) → k ≢ i → g k ≡ f k) → listBelow n g ≡ set (listBelow n f) i x
+  list-set n i x h here other =
+      ext-getD x (listBelow n g) (set (listBelow n f) i x) (list-length g n ∙ sym (length-set (listBelow n f) i x ∙ list-length f n)) at
+    where
+      at : (k : ℕ) → k < length (listBelow n g) → getD (listBelow n g) k x ≡ getD (set (listBelow n f) i x) k x
+      at k l =
+          let below : k < n = rw (list-length g n) at l in
+          list-at g n k x below
+          ∙ elim (ℕ-discrete k i) [
+            | yes e ↦ ap g e ∙ here ∙ sym (getD-set-same (listBelow n f) i x x (rw (list-length f n) h)) ∙ ap (λ (j : ℕ). getD (set (listBelow n f) i x) j x) (sym e)
+            | no ne ↦ other k ne ∙ sym (list-at f n k x below) ∙ sym (getD-set-other (listBelow n f) i k x x ne)
+          ]
+
+  pub list-more : (n : ℕ) (x : A) → g n ≡ x → ((k : ℕ) → k < n → g k ≡ f k) → listBelow (n + 1) g ≡ listBelow n f ++ x ∷ []
+  list-more n x here before = rw (add-one n, list-suc g n, here, list-same n g f before)
+
+-- ---- bytes
+
+-- Every element is a byte.
+pub record Bytes (l : List ℕ) : Type 0 where
+  pub byte : (k : ℕ) → getD l k 0 < 256
+
+pub bytes-none : Bytes []
+bytes-none = record { byte = λ k. lit< tt }
+
+pub bytes-cons : {x : ℕ} {l : List ℕ} → x < 256 → Bytes l → Bytes (x ∷ l)
+bytes-cons {x} {l} h b = record { byte = at }
+  where
+    at : (k : ℕ) → getD (x ∷ l) k 0 < 256
+    at zero = h
+    at (suc k) = b .byte k
+
+bytes-rest : (x : ℕ) (l : List ℕ) → Bytes (x ∷ l) → Bytes l
+bytes-rest x l b = record { byte = λ k. b .byte (suc k) }
+
+pub bytes-append : (a b : List ℕ) → Bytes a → Bytes b → Bytes (a ++ b)
+bytes-append [] b p q = q
+bytes-append (x ∷ xs) b p q = bytes-cons (p .byte 0) (bytes-append xs b (bytes-rest x xs p) q)
+
+pub bytes-take : (n : ℕ) (l : List ℕ) → Bytes l → Bytes (take n l)
+bytes-take zero l p = bytes-none
+bytes-take (suc n) [] p = bytes-none
+bytes-take (suc n) (x ∷ xs) p = bytes-cons (p .byte 0) (bytes-take n xs (bytes-rest x xs p))
+
+pub bytes-drop : (n : ℕ) (l : List ℕ) → Bytes l → Bytes (drop n l)
+bytes-drop zero l p = p
+bytes-drop (suc n) [] p = p
+bytes-drop (suc n) (x ∷ xs) p = bytes-drop n xs (bytes-rest x xs p)
+
+pub bytes-set : (l : List ℕ) (i a : ℕ) → Bytes l → a < 256 → Bytes (set l i a)
+bytes-set [] i a p h = p
+bytes-set (x ∷ xs) zero a p h = bytes-cons h (bytes-rest x xs p)
+bytes-set (x ∷ xs) (suc i) a p h = bytes-cons (p .byte 0) (bytes-set xs i a (bytes-rest x xs p) h)
+
+pub bytes-sets : (l : List ℕ) (at : ℕ) (b : List ℕ) → Bytes l → Bytes b → Bytes (sets l at b)
+bytes-sets l at [] p q = p
+bytes-sets l at (x ∷ xs) p q = bytes-sets (set l at x) (suc at) xs (bytes-set l at x p (q .byte 0)) (bytes-rest x xs q)
+
+pub bytes-joined {ℓ} : {A : Type ℓ} (f : A → List ℕ) (l : List A) → ((k : ℕ) (d : A) → k < length l → Bytes (f (getD l k d))) → Bytes (joined f l)
+unfolding joined
+bytes-joined f [] h = bytes-none
+bytes-joined f (x ∷ xs) h = bytes-append (f x) (joined f xs) (h 0 x (omega arith)) (bytes-joined f xs (λ k d l. h (suc k) d (suc-le-suc l)))
