@@ -1,0 +1,70 @@
+/* Calls tmb_check as docs/tmb.h declares it and compares the reports; prints ok if all are right. */
+#include "tmb.h"
+
+#include <stdio.h>
+
+/* K as built: four vertices, one piece, job 7; 77 bytes. */
+static const uint8_t k[77] = {
+    'T', 'M', 'B', 1, 0,           /* mark, version 1 */
+    7, 0, 0, 0,                    /* job */
+    0, 0,                          /* round */
+    4, 0, 4, 0,                    /* base vertices, all vertices */
+    1, 0, 1, 0,                    /* base records, all records */
+    0,                             /* a zero byte */
+    0, 0, 0, 0, 0, 0,              /* vertex 0: (0,0,0) */
+    255, 255, 255, 255,            /* no parents */
+    64, 0, 0, 0, 0, 0,             /* vertex 1: (64,0,0) */
+    255, 255, 255, 255,            /* no parents */
+    64, 0, 64, 0, 0, 0,            /* vertex 2: (64,64,0) */
+    255, 255, 255, 255,            /* no parents */
+    64, 0, 64, 0, 64, 0,           /* vertex 3: (64,64,64) */
+    255, 255, 255, 255,            /* no parents */
+    0, 0, 1, 0, 2, 0, 3, 0,        /* record 0: corners 0 1 2 3 */
+    2,                             /* refinement edge */
+    4, 2, 2, 1,                    /* marks of faces 0 to 3 */
+    0, 0,                          /* flag, generation */
+    255, 255                       /* uncut */
+};
+
+static int failures = 0;
+
+static void expect(const char *name, struct tmb_report given, struct tmb_report wanted)
+{
+    if (given.number != wanted.number || given.leaves != wanted.leaves ||
+        given.deepest != wanted.deepest || given.sixfold != wanted.sixfold ||
+        given.record != wanted.record || given.edge != wanted.edge) {
+        printf("%s: number %lu leaves %lu deepest %lu sixfold %lu record %lu edge %lu\n", name,
+               (unsigned long)given.number, (unsigned long)given.leaves,
+               (unsigned long)given.deepest, (unsigned long)given.sixfold,
+               (unsigned long)given.record, (unsigned long)given.edge);
+        failures++;
+    }
+}
+
+int main(void)
+{
+    struct tmb_report accepted = {0, 1, 0, 262144, 0, 0};
+    struct tmb_report refused = {0, 0, 0, 0, 0, 0};
+    uint8_t changed[sizeof k];
+    size_t i;
+
+    expect("K", tmb_check(k, sizeof k), accepted);
+
+    /* The refinement edge 2 made 5: the faces that contain it are marked otherwise. */
+    for (i = 0; i < sizeof k; i++)
+        changed[i] = k[i];
+    changed[68] = 5;
+    refused.number = 6;
+    expect("K with another refinement edge", tmb_check(changed, sizeof changed), refused);
+
+    /* Under 20 bytes. */
+    refused.number = 1;
+    expect("nothing", tmb_check(k, 0), refused);
+
+    /* A byte short. */
+    expect("K without its last byte", tmb_check(k, sizeof k - 1), refused);
+
+    if (failures == 0)
+        puts("ok");
+    return failures != 0;
+}

@@ -1,0 +1,497 @@
+//! Accepted meshes: plain ones, three ways to mark them, and refinement at random.
+
+use crate::random::Random;
+use second::mesh::{Mesh, Record, Vertex, NO_NUMBER};
+use second::piece::{children, ends, on_face, slots, EDGES};
+use second::{build_vec, refine_vec, selection, MOST_RECORDS, MOST_VERTICES};
+use std::collections::{BTreeMap, BTreeSet};
+
+/// K of "A piece worked by hand": its four places.
+pub const K: [[i16; 3]; 4] = [[0, 0, 0], [64, 0, 0], [64, 64, 0], [64, 64, 64]];
+
+/// "The cube ... as six pieces round the diagonal": bit 0 of a number is x, bit 1 is y, bit 2 is z.
+const CUBE: [[u16; 4]; 6] = [
+    [0, 1, 3, 7],
+    [0, 1, 5, 7],
+    [0, 2, 3, 7],
+    [0, 2, 6, 7],
+    [0, 4, 5, 7],
+    [0, 4, 6, 7],
+];
+
+/// Two vertex numbers, lower first.
+pub type Pair = (u16, u16);
+
+pub fn pair(one: u16, other: u16) -> Pair {
+    (one.min(other), one.max(other))
+}
+
+/// The three corners of a face as a set: "Face i is the face without slot i."
+pub fn face_set(corners: [u16; 4], face: usize) -> [u16; 3] {
+    let mut set = [0; 3];
+    for (place, slot) in (0..4).filter(|&slot| slot != face).enumerate() {
+        set[place] = corners[slot];
+    }
+    set.sort_unstable();
+    set
+}
+
+/// The code of an edge given by its two vertices.
+pub fn code_of(corners: [u16; 4], edge: Pair) -> u8 {
+    (0..6)
+        .zip(EDGES)
+        .find(|(_, [one, other])| pair(corners[*one], corners[*other]) == edge)
+        .expect("an edge of the piece")
+        .0
+}
+
+/// A plain mesh: places, and pieces by their corners.
+#[derive(Clone, Default)]
+pub struct Plain {
+    pub places: Vec<[i16; 3]>,
+    pub pieces: Vec<[u16; 4]>,
+}
+
+/// Refinement edge and marks of faces 0 to 3.
+type Marking = (u8, [u8; 4]);
+
+impl Plain {
+    /// Marked by build.
+    pub fn built(&self, job: u32) -> Mesh {
+        let bytes = build_vec(job, &self.places.concat(), &self.pieces.concat());
+        Mesh::read(&bytes.expect("a plain mesh")).expect("a stored mesh")
+    }
+
+    /// Marked by hand.
+    pub fn marked(&self, job: u32, markings: &[Marking]) -> Mesh {
+        let vertex = |&place| Vertex {
+            place,
+            parents: [NO_NUMBER; 2],
+        };
+        let record = |(&corners, &(edge, marks)): (&[u16; 4], &Marking)| Record {
+            corners,
+            edge,
+            marks,
+            flag: 0,
+            generation: 0,
+            first_child: NO_NUMBER,
+        };
+        Mesh {
+            job,
+            round: 0,
+            base_vertices: self.places.len(),
+            base_records: self.pieces.len(),
+            vertices: self.places.iter().map(vertex).collect(),
+            records: self.pieces.iter().zip(markings).map(record).collect(),
+        }
+    }
+
+    /// Marked by a random strict order of the edges.
+    pub fn marked_by_order(&self, random: &mut Random) -> Mesh {
+        let salt = random.number() | 1;
+        let rank = |edge: Pair| {
+            let mixed = (u64::from(edge.0) << 16 | u64::from(edge.1)).wrapping_mul(salt);
+            (mixed ^ mixed >> 29, edge)
+        };
+        let marking = |&corners: &[u16; 4]| -> Marking {
+            let first = |face: Option<usize>| {
+                (0u8..6)
+                    .filter(|&code| face.is_none_or(|face| on_face(code, face)))
+                    .min_by_key(|&code| {
+                        let [one, other] = EDGES[usize::from(code)];
+                        rank(pair(corners[one], corners[other]))
+                    })
+                    .expect("an edge")
+            };
+            (first(None), [0, 1, 2, 3].map(|face| first(Some(face))))
+        };
+        let markings: Vec<Marking> = self.pieces.iter().map(marking).collect();
+        self.marked(random.number() as u32, &markings)
+    }
+
+    /// Marked freely under rules 6 and 7; nothing if the choice ran into a piece with none left.
+    pub fn marked_freely(&self, random: &mut Random) -> Option<Mesh> {
+        let mut marks: BTreeMap<[u16; 3], Pair> = BTreeMap::new();
+        let mut markings = Vec::new();
+        for &corners in &self.pieces {
+            let edge_of = |code: u8| {
+                let [one, other] = EDGES[usize::from(code)];
+                pair(corners[one], corners[other])
+            };
+            let faces_with = |code: u8| {
+                (0..4)
+                    .filter(move |&face| on_face(code, face))
+                    .map(|face| face_set(corners, face))
+            };
+            let mut codes = [0, 1, 2, 3, 4, 5];
+            random.shuffle(&mut codes);
+            let edge = codes.into_iter().find(|&code| {
+                faces_with(code)
+                    .all(|face| marks.get(&face).is_none_or(|&mark| mark == edge_of(code)))
+            })?;
+            for face in faces_with(edge) {
+                marks.insert(face, edge_of(edge));
+            }
+            let codes = [0, 1, 2, 3].map(|face| {
+                let set = face_set(corners, face);
+                let at = random.below(3);
+                let mark = marks
+                    .entry(set)
+                    .or_insert_with(|| pair(set[at], set[(at + 1) % 3]));
+                code_of(corners, *mark)
+            });
+            markings.push((edge, codes));
+        }
+        Some(self.marked(random.number() as u32, &markings))
+    }
+
+    /// Marked in one of the three ways.
+    pub fn marked_anyhow(&self, random: &mut Random) -> Mesh {
+        match random.below(3) {
+            0 => self.built(random.number() as u32),
+            1 => self.marked_by_order(random),
+            _ => (0..50)
+                .find_map(|_| self.marked_freely(random))
+                .unwrap_or_else(|| self.marked_by_order(random)),
+        }
+    }
+
+    /// Whether build accepts the piece alone: four different corners, sixfold volume not 0.
+    fn solid(&self, piece: [u16; 4]) -> bool {
+        let places = piece.map(|corner| self.places[usize::from(corner)]);
+        build_vec(0, &places.concat(), &[0, 1, 2, 3]).is_ok()
+    }
+
+    /// Whether rules 5 and 7 let the piece be added.
+    fn may_join(&self, piece: [u16; 4]) -> bool {
+        let faces = || {
+            self.pieces
+                .iter()
+                .flat_map(|&old| [0, 1, 2, 3].map(|face| face_set(old, face)))
+        };
+        let open = |face| {
+            faces()
+                .filter(|&other| other == face_set(piece, face))
+                .count()
+                < 2
+        };
+        let same = |&old: &[u16; 4]| BTreeSet::from(old) == BTreeSet::from(piece);
+        self.solid(piece) && (0..4).all(open) && !self.pieces.iter().any(same)
+    }
+
+    /// Another numbering of the vertices, another order of the pieces, other slots.
+    pub fn mixed(mut self, random: &mut Random) -> Plain {
+        let mut numbers: Vec<u16> = (0..).take(self.places.len()).collect();
+        random.shuffle(&mut numbers);
+        let mut places = self.places.clone();
+        for (&place, &new) in self.places.iter().zip(&numbers) {
+            places[usize::from(new)] = place;
+        }
+        random.shuffle(&mut self.pieces);
+        for piece in &mut self.pieces {
+            random.shuffle(piece);
+            *piece = piece.map(|corner| numbers[usize::from(corner)]);
+        }
+        Plain {
+            places,
+            pieces: self.pieces,
+        }
+    }
+}
+
+/// Random grid places within so many steps of 32 of the origin.
+fn grid_place(random: &mut Random, span: usize) -> [i16; 3] {
+    [0; 3].map(|_: i16| 32 * (random.below(2 * span + 1) as i16 - span as i16))
+}
+
+/// One random piece.
+pub fn one_piece(random: &mut Random) -> Plain {
+    joined(random, 1)
+}
+
+/// Pieces joined at random on faces, edges, single vertices or nowhere; they may overlap.
+pub fn joined(random: &mut Random, pieces: usize) -> Plain {
+    let span = [3, 8, 200, 1_023][random.below(4)];
+    let mut plain = Plain::default();
+    while plain.pieces.len() < pieces {
+        let known = plain.places.len();
+        let mut piece = Vec::new();
+        if let Some(mut old) = random.pick(&plain.pieces) {
+            // How many corners the new piece takes from an old one.
+            let kept = [3, 3, 3, 3, 2, 2, 1, 0][random.below(8)];
+            random.shuffle(&mut old);
+            piece.extend(&old[..kept]);
+            if kept == 3 && random.one_in(3) {
+                piece.push(random.below(known) as u16);
+            }
+        }
+        while piece.len() < 4 {
+            let place = grid_place(random, span);
+            if !plain.places.contains(&place) {
+                piece.push(plain.places.len() as u16);
+                plain.places.push(place);
+            }
+        }
+        let piece = [piece[0], piece[1], piece[2], piece[3]];
+        if plain.may_join(piece) {
+            plain.pieces.push(piece);
+        } else {
+            plain.places.truncate(known);
+        }
+    }
+    plain.mixed(random)
+}
+
+/// A block of cubes of the given side, each as six pieces round the diagonal.
+pub fn cubes(sides: [usize; 3], side: i16) -> Plain {
+    let mut numbers: BTreeMap<[usize; 3], u16> = BTreeMap::new();
+    let mut plain = Plain::default();
+    for x in 0..sides[0] {
+        for y in 0..sides[1] {
+            for z in 0..sides[2] {
+                for piece in CUBE {
+                    plain.pieces.push(piece.map(|corner| {
+                        let bit = |axis: u16| usize::from(corner >> axis & 1);
+                        let at = [x + bit(0), y + bit(1), z + bit(2)];
+                        *numbers.entry(at).or_insert_with(|| {
+                            plain.places.push(at.map(|steps| side * steps as i16));
+                            plain.places.len() as u16 - 1
+                        })
+                    }));
+                }
+            }
+        }
+    }
+    plain
+}
+
+/// A plain mesh with only some of its pieces, so many in a hundred, and the vertices they use.
+pub fn thinned(plain: Plain, random: &mut Random, percent: usize) -> Plain {
+    let mut kept: Vec<[u16; 4]> = plain.pieces.clone();
+    kept.retain(|_| random.below(100) < percent);
+    if kept.is_empty() {
+        kept.extend(random.pick(&plain.pieces));
+    }
+    let mut thin = Plain::default();
+    let mut numbers: BTreeMap<u16, u16> = BTreeMap::new();
+    for piece in kept {
+        thin.pieces.push(piece.map(|corner| {
+            *numbers.entry(corner).or_insert_with(|| {
+                thin.places.push(plain.places[usize::from(corner)]);
+                thin.places.len() as u16 - 1
+            })
+        }));
+    }
+    thin
+}
+
+/// So many pieces like K that share nothing, at most 256.
+pub fn separate(pieces: usize) -> Plain {
+    let mut plain = Plain::default();
+    for number in 0..pieces {
+        let at = [number % 16, number / 16, 0].map(|steps| 256 * steps as i16);
+        let first = plain.places.len() as u16;
+        let corner = |place: [i16; 3]| [0, 1, 2].map(|axis| at[axis] + 2 * place[axis]);
+        plain.places.extend(K.map(corner));
+        plain.pieces.push([0, 1, 2, 3].map(|slot| first + slot));
+    }
+    plain
+}
+
+/// 1,024 vertices and 3,072 base records: a block of 2 by 16 by 19 cubes and one piece apart, some
+/// of the block's pieces left out.
+pub fn full_base(random: &mut Random) -> Plain {
+    let mut plain = cubes([2, 16, 19], 64);
+    let mut uses = vec![0u32; plain.places.len()];
+    for &corner in plain.pieces.iter().flatten() {
+        uses[usize::from(corner)] += 1;
+    }
+    random.shuffle(&mut plain.pieces);
+    let mut superfluous = plain.pieces.len() - (MOST_RECORDS - 1);
+    plain.pieces.retain(|piece| {
+        let needed = piece.iter().any(|&corner| uses[usize::from(corner)] == 1);
+        if superfluous == 0 || needed {
+            return true;
+        }
+        for &corner in piece {
+            uses[usize::from(corner)] -= 1;
+        }
+        superfluous -= 1;
+        false
+    });
+    let first = plain.places.len() as u16;
+    plain.places.extend(K.map(|[x, y, z]| [x - 640, y, z]));
+    plain.pieces.push([0, 1, 2, 3].map(|slot| first + slot));
+    assert_eq!(
+        (plain.places.len(), plain.pieces.len()),
+        (MOST_VERTICES, MOST_RECORDS)
+    );
+    plain.mixed(random)
+}
+
+/// A single piece with each refinement edge and each pair of other marks: 54 markings, each type
+/// among them. The places are random.
+pub fn single_pieces(random: &mut Random) -> Vec<Mesh> {
+    let mut singles = Vec::new();
+    for edge in 0..6 {
+        let [a, b] = slots(edge).expect("an edge code");
+        let on = |face: usize| (0..6).filter(move |&code| on_face(code, face));
+        for mark_a in on(a) {
+            for mark_b in on(b) {
+                let mut marks = [edge; 4];
+                (marks[a], marks[b]) = (mark_a, mark_b);
+                let plain = one_piece(random);
+                singles.push(plain.marked(random.number() as u32, &[(edge, marks)]));
+            }
+        }
+    }
+    singles
+}
+
+/// A random accepted mesh of round 0: pieces joined anyhow, or cubes with some pieces left out.
+pub fn random_base(random: &mut Random, most: usize) -> Mesh {
+    let plain = if random.one_in(2) {
+        let pieces = 1 + random.below(most);
+        joined(random, pieces)
+    } else {
+        let sides = [0; 3].map(|_: usize| 1 + random.below(2));
+        let side = 32 * [1, 2, 5, 100][random.below(4)];
+        let percent = 20 + random.below(81);
+        thinned(cubes(sides, side), random, percent).mixed(random)
+    };
+    plain.marked_anyhow(random)
+}
+
+/// The leaves that may be named in a selection.
+pub fn open_leaves(mesh: &Mesh) -> Vec<u16> {
+    let open = mesh.leaves().filter(|(_, leaf)| leaf.generation < 15);
+    open.map(|(number, _)| number as u16).collect()
+}
+
+/// Refined by the second program, by a selection for the mesh's own job and round.
+pub fn refined(mesh: &Mesh, numbers: &[u16]) -> Result<Mesh, u32> {
+    let chosen = selection(mesh.job, mesh.round, numbers);
+    let bytes = refine_vec(&mesh.bytes(), &chosen)?;
+    Ok(Mesh::read(&bytes).expect("a stored mesh"))
+}
+
+/// Refined by a random selection: a few leaves, a third of them, all of one generation, or the
+/// deepest alone. Nothing if no leaf may be named or the tables have no room.
+pub fn refined_anyhow(mesh: &Mesh, random: &mut Random) -> Option<Mesh> {
+    let mut leaves = open_leaves(mesh);
+    let generation = |number: u16| mesh.records[usize::from(number)].generation;
+    random.shuffle(&mut leaves);
+    match random.below(8) {
+        0..=3 => leaves.truncate(1 + random.below(3)),
+        4 => leaves.truncate(1 + leaves.len() / 3),
+        5 => {
+            let one = generation(*leaves.first()?);
+            leaves.retain(|&number| generation(number) == one);
+        }
+        _ => {
+            let deepest = leaves.iter().max_by_key(|&&number| generation(number));
+            leaves = deepest.copied().into_iter().collect();
+        }
+    }
+    leaves.sort_unstable();
+    refined(mesh, &leaves).ok().filter(|_| !leaves.is_empty())
+}
+
+/// The first of the deepest leaves refined until it has generation 15, or as deep as the tables
+/// have room for.
+pub fn deepened(mut mesh: Mesh) -> Mesh {
+    loop {
+        let deepest = mesh.leaves().map(|(_, leaf)| leaf.generation).max();
+        let leaf = mesh
+            .leaves()
+            .find(|(_, leaf)| Some(leaf.generation) == deepest);
+        let number = leaf.expect("a leaf").0 as u16;
+        match refined(&mesh, &[number]) {
+            Ok(finer) => mesh = finer,
+            Err(_) => return mesh,
+        }
+    }
+}
+
+/// The leaves whose refinement edge is no other leaf's edge: cutting them needs no closing.
+fn lonely_leaves(mesh: &Mesh) -> Vec<u16> {
+    let mut uses: BTreeMap<Pair, u32> = BTreeMap::new();
+    for (_, leaf) in mesh.leaves() {
+        for edge in (0..6).filter_map(|code| ends(leaf, code)) {
+            *uses.entry(edge).or_default() += 1;
+        }
+    }
+    let mut lonely = open_leaves(mesh);
+    lonely.retain(|&number| {
+        let record = &mesh.records[usize::from(number)];
+        ends(record, record.edge).is_some_and(|edge| uses[&edge] == 1)
+    });
+    lonely
+}
+
+/// Refined at random until both tables are full, or nothing tried has room any more.
+pub fn filled(mut mesh: Mesh, random: &mut Random) -> Mesh {
+    // A cut without closing takes a vertex and two records, any other fewer vertices for its
+    // records: the records that are to spare go first, the rest to cuts without closing.
+    let to_spare = |mesh: &Mesh| {
+        let records = MOST_RECORDS - mesh.records.len();
+        records.checked_sub(2 * (MOST_VERTICES - mesh.vertices.len()))
+    };
+    let mut tries = 0;
+    while tries < 100 {
+        let before = to_spare(&mesh);
+        let (mut leaves, wanted) = match before {
+            Some(0) => (lonely_leaves(&mesh), MOST_VERTICES - mesh.vertices.len()),
+            _ => (open_leaves(&mesh), if tries == 0 { 8 } else { 1 }),
+        };
+        random.shuffle(&mut leaves);
+        leaves.truncate(wanted);
+        leaves.sort_unstable();
+        if leaves.is_empty() {
+            break;
+        }
+        match refined(&mesh, &leaves) {
+            Ok(finer) if before.is_none() || to_spare(&finer).is_some() => {
+                (mesh, tries) = (finer, 0);
+            }
+            _ => tries += 1,
+        }
+    }
+    mesh
+}
+
+/// Cuts one record and closes nothing. False if it is cut already or the tables have no room.
+pub fn cut_alone(mesh: &mut Mesh, number: usize) -> bool {
+    let parent = mesh.records[number];
+    let Some((p, q)) = ends(&parent, parent.edge) else {
+        return false;
+    };
+    let known = mesh.vertices[mesh.base_vertices..]
+        .iter()
+        .position(|vertex| vertex.parents == [p, q]);
+    let w = known.map_or(mesh.vertices.len(), |place| mesh.base_vertices + place);
+    let room = w < MOST_VERTICES && mesh.records.len() + 2 <= MOST_RECORDS;
+    let (Some(one), Some(other)) = (mesh.place(p), mesh.place(q)) else {
+        return false;
+    };
+    let Some(cut) = children(&parent, w as u16) else {
+        return false;
+    };
+    if !parent.is_leaf() || !room {
+        return false;
+    }
+    if known.is_none() {
+        mesh.vertices.push(Vertex {
+            place: [0, 1, 2].map(|axis| halfway(one[axis], other[axis])),
+            parents: [p, q],
+        });
+    }
+    mesh.records[number].first_child = mesh.records.len() as u16;
+    mesh.records.extend(cut);
+    true
+}
+
+/// Half the sum, rounded down.
+pub fn halfway(one: i16, other: i16) -> i16 {
+    ((i32::from(one) + i32::from(other)) >> 1) as i16
+}
