@@ -51,6 +51,28 @@ struct tmb_report {
  */
 struct tmb_report tmb_check(const uint8_t *mesh, size_t length);
 
+/*
+ * Build marks a plain mesh and stores it: a job number, coordinate_count coordinates, three a vertex,
+ * and corner_count corners, four a piece, which are only read. It gives back the number alone, 0 on
+ * acceptance, and tries 21, then 3, 4, 5, 7, 8, 20:
+ *
+ *    0  accepted
+ *   21  coordinates not three a vertex, or corners not four a piece
+ *    3  a count beyond its bounds: at most 1,024 vertices and 3,072 records, at least 4 and 1
+ *    4  base coordinate off the grid (multiples of 32 from -32,736 to 32,736), or two base vertices
+ *       at one place
+ *    5  base record with equal corners, a corner not in the base, or sixfold volume 0
+ *    7  a face in three base records, or two base records with the same four corners
+ *    8  a base vertex in no base record
+ *   20  the output buffer is shorter than the result
+ *
+ * The result has 20 + 10 * vertices + 17 * records bytes, at most 62,484. All room bytes at out are
+ * written: after acceptance the buffer is zero past the result, after a refusal it is zero
+ * throughout. It overlaps neither input. No pointer is NULL, also where its count is 0.
+ */
+uint32_t tmb_build(uint32_t job, const int16_t *coordinates, size_t coordinate_count,
+                   const uint16_t *corners, size_t corner_count, uint8_t *out, size_t room);
+
 #ifdef __cplusplus
 }
 #endif

@@ -1,4 +1,7 @@
-/* Calls tmb_check as docs/tmb.h declares it and compares the reports; prints ok if all are right. */
+/*
+ * Calls tmb_check and tmb_build as docs/tmb.h declares them and compares the reports, the numbers and
+ * the bytes; prints ok if all are right.
+ */
 #include "tmb.h"
 
 #include <stdio.h>
@@ -26,6 +29,10 @@ static const uint8_t k[77] = {
     255, 255                       /* uncut */
 };
 
+/* K: its places, and its one piece. */
+static const int16_t places[12] = {0, 0, 0, 64, 0, 0, 64, 64, 0, 64, 64, 64};
+static const uint16_t piece[4] = {0, 1, 2, 3};
+
 static int failures = 0;
 
 static void expect(const char *name, struct tmb_report given, struct tmb_report wanted)
@@ -37,6 +44,32 @@ static void expect(const char *name, struct tmb_report given, struct tmb_report 
                (unsigned long)given.number, (unsigned long)given.leaves,
                (unsigned long)given.deepest, (unsigned long)given.sixfold,
                (unsigned long)given.record, (unsigned long)given.edge);
+        failures++;
+    }
+}
+
+/* Builds K, job 7, into so many bytes; wanted is NULL where they are all to be zero. */
+static void expect_built(const char *name, size_t room, uint32_t number, const uint8_t *wanted)
+{
+    uint8_t buffer[1 + sizeof k + 1];
+    uint32_t given;
+    size_t i;
+
+    for (i = 0; i < sizeof buffer; i++)
+        buffer[i] = 170;
+    given = tmb_build(7, places, 12, piece, 4, buffer + 1, room);
+    if (given != number) {
+        printf("%s: number %lu\n", name, (unsigned long)given);
+        failures++;
+    }
+    for (i = 0; i < room; i++) {
+        if (buffer[1 + i] != (wanted ? wanted[i] : 0)) {
+            printf("%s: byte %lu is %u\n", name, (unsigned long)i, (unsigned)buffer[1 + i]);
+            failures++;
+        }
+    }
+    if (buffer[0] != 170 || buffer[1 + room] != 170) {
+        printf("%s: written beyond the output buffer\n", name);
         failures++;
     }
 }
@@ -63,6 +96,10 @@ int main(void)
 
     /* A byte short. */
     expect("K without its last byte", tmb_check(k, sizeof k - 1), refused);
+
+    expect_built("K built into 77 bytes", 77, 0, k);
+    expect_built("K built into 76 bytes", 76, 20, NULL);
+    expect_built("K built into none", 0, 20, NULL);
 
     if (failures == 0)
         puts("ok");

@@ -22,6 +22,15 @@ struct TmbReport {
 mod station {
     extern "C" {
         pub fn tmb_check(mesh: *const u8, length: usize) -> super::TmbReport;
+        pub fn tmb_build(
+            job: u32,
+            coordinates: *const i16,
+            coordinate_count: usize,
+            corners: *const u16,
+            corner_count: usize,
+            out: *mut u8,
+            room: usize,
+        ) -> u32;
     }
 }
 
@@ -36,5 +45,22 @@ pub fn tmb_check(mesh: &[u8]) -> Report {
         sixfold: report.sixfold,
         record: report.record,
         edge: report.edge,
+    }
+}
+
+/// The proved build: marks a plain mesh and stores it. The number alone, 0 on acceptance.
+pub fn tmb_build(job: u32, coordinates: &[i16], corners: &[u16], out: &mut [u8]) -> u32 {
+    // SAFETY: the pointers and the lengths are those of slices; the first two are only read, the
+    // third is written and overlaps neither.
+    unsafe {
+        station::tmb_build(
+            job,
+            coordinates.as_ptr(),
+            coordinates.len(),
+            corners.as_ptr(),
+            corners.len(),
+            out.as_mut_ptr(),
+            out.len(),
+        )
     }
 }

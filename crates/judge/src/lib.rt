@@ -8,7 +8,7 @@ use refusals::Report;
 use stored::Header;
 ghost use mathlib.Core.Path.{_≡_};
 ghost use Rattle.refusals.specs.Tables.{tables};
-ghost use Rattle.refusals.specs.Refusals.{limits, wrongCounts};
+ghost use Rattle.refusals.specs.Refusals.{limits, wrongCounts, unusedVertices};
 ghost use Rattle.refusals.specs.Check.{refusedWith, accepted, checkOf};
 ghost use Rattle.judge.specs.Bounds.{Bounded};
 ghost use Rattle.judge.specs.Hanging.{closedReport, judgedReport};
@@ -46,6 +46,13 @@ fn wrong_counts(h: Header) -> bool
         return true;
     }
     h.records < h.base_records
+}
+
+// Refusal 8.
+pub fn unused_vertices(h: Header, vertices: &[u8], records: &[u8]) -> bool
+    ensures { λ r. ⌜ r ≡ unusedVertices (tables h (now (vertices .entry)) (now (records .entry))) ⌝ }
+{
+    uses::unused_vertices(h, vertices, records)
 }
 
 // What the tables are accepted with.
@@ -99,7 +106,7 @@ fn judged(h: Header, vertices: &[u8], records: &[u8]) -> Report
     if faces::bad_base_faces(h, vertices, records) {
         return refused(7);
     }
-    if uses::unused_vertices(h, vertices, records) {
+    if unused_vertices(h, vertices, records) {
         return refused(8);
     }
     if children::bad_cuts(h, vertices, records) {

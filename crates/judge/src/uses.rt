@@ -4,10 +4,12 @@ use stored::Header;
 ghost use mathlib.Core.Path.{_≡_};
 ghost use Prim.Native.Nat.{ℕ, _≤_, _<_};
 ghost use lib.ListN.{getD, replicate};
+ghost use lib.Dec.{eqb};
+ghost use Rattle.laws.specs.Below.{anyBelow};
+ghost use Rattle.piece.specs.Cut.{cornerAt};
 ghost use Rattle.stored.specs.Layout.{recordIn};
 ghost use Rattle.refusals.specs.Tables.{tables};
-ghost use Rattle.refusals.specs.Refusals.{unusedVertices};
-ghost use Rattle.judge.specs.Bounds.{Bounded};
+ghost use Rattle.refusals.specs.Refusals.{hasCorner, unusedVertex, unusedVertices};
 ghost use Rattle.judge.specs.Uses.{usedAt, usedBy, usesAfter};
 
 // One use more of vertex x, if the table has it.
@@ -51,8 +53,8 @@ fn count_records(uses: &mut [u64], records: &[u8], count: usize)
     }
 }
 
-pub fn unused_vertices(h: Header, vertices: &[u8], records: &[u8]) -> bool
-    requires { ⌜ Bounded h ⌝ }
+fn unused_by_table(h: Header, vertices: &[u8], records: &[u8]) -> bool
+    requires { ⌜ (h .«base_vertices» ≤ 1024) × (h .«base_records» ≤ 3072) ⌝ }
     ensures { λ r. ⌜ r ≡ unusedVertices (tables h (now (vertices .entry)) (now (records .entry))) ⌝ }
 {
     let mut uses = [0u64; 1024];
@@ -66,4 +68,77 @@ pub fn unused_vertices(h: Header, vertices: &[u8], records: &[u8]) -> bool
         v += 1;
     }
     false
+}
+
+fn corner_is(p: Piece, v: usize, k: u8) -> bool
+    ensures { λ r. ⌜ r ≡ eqb (cornerAt p k) v ⌝ }
+{
+    piece::corner(p, k) as usize == v
+}
+
+fn has_corner(p: Piece, v: usize) -> bool
+    ensures { λ r. ⌜ r ≡ hasCorner p v ⌝ }
+{
+    let mut k: u8 = 0;
+    while k < 4 {
+        if corner_is(p, v, k) {
+            return true;
+        }
+        k += 1;
+    }
+    false
+}
+
+fn record_has(records: &[u8], n: usize, v: usize) -> bool
+    ensures { λ r. ⌜ r ≡ hasCorner (recordIn (now (records .entry)) n .piece) v ⌝ }
+{
+    let record = stored::record_in(records, n);
+    let p = record.piece;
+    has_corner(p, v)
+}
+
+fn is_used(records: &[u8], count: usize, v: usize) -> bool
+    ensures { λ r. ⌜ r ≡ anyBelow count (λ n. hasCorner (recordIn (now (records .entry)) n .piece) v) ⌝ }
+{
+    let mut n: usize = 0;
+    while n < count {
+        if record_has(records, n, v) {
+            return true;
+        }
+        n += 1;
+    }
+    false
+}
+
+fn is_unused(h: Header, vertices: &[u8], records: &[u8], v: usize) -> bool
+    ensures { λ r. ⌜ r ≡ unusedVertex (tables h (now (vertices .entry)) (now (records .entry))) v ⌝ }
+{
+    !is_used(records, h.base_records as usize, v)
+}
+
+fn unused_by_search(h: Header, vertices: &[u8], records: &[u8]) -> bool
+    ensures { λ r. ⌜ r ≡ unusedVertices (tables h (now (vertices .entry)) (now (records .entry))) ⌝ }
+{
+    let count = h.base_vertices as usize;
+    let mut v: usize = 0;
+    while v < count {
+        if is_unused(h, vertices, records, v) {
+            return true;
+        }
+        v += 1;
+    }
+    false
+}
+
+// The table has a place for each possible vertex; counts that refusal 3 refuses are served without it.
+pub fn unused_vertices(h: Header, vertices: &[u8], records: &[u8]) -> bool
+    ensures { λ r. ⌜ r ≡ unusedVertices (tables h (now (vertices .entry)) (now (records .entry))) ⌝ }
+{
+    if 1024 < h.base_vertices {
+        return unused_by_search(h, vertices, records);
+    }
+    if 3072 < h.base_records {
+        return unused_by_search(h, vertices, records);
+    }
+    unused_by_table(h, vertices, records)
 }

@@ -186,6 +186,13 @@ recordsOf s = drop (headerWidth + vertexWidth * allVertices s) s
 unfoldable pub headerInto : List ℕ → Header → List ℕ
 headerInto s h = sets s 0 (headerBytes h)
 
+-- A mesh with vertex i written, and with record i written where all vertices are as many as is said.
+unfoldable pub meshVertexInto : List ℕ → ℕ → Vertex → List ℕ
+meshVertexInto s i v = sets s (meshLength i 0) (vertexBytes v)
+
+unfoldable pub meshRecordInto : List ℕ → ℕ → ℕ → Record → List ℕ
+meshRecordInto s vertices i r = sets s (meshLength vertices i) (recordBytes r)
+
 -- A mesh as numbers, in which no byte is left.
 pub record Mesh : Type 0 where
   pub header : Header

@@ -7,6 +7,7 @@ mod part;
 use grid::Place;
 use piece::Piece;
 ghost use mathlib.Core.Path.{_≡_};
+ghost use lib.Seq.{sets};
 ghost use Rattle.stored.specs.Layout.{
   marked,
   rightMark,
@@ -24,6 +25,8 @@ ghost use Rattle.stored.specs.Layout.{
   recordBytes,
   recordIn,
   recordInto,
+  meshVertexInto,
+  meshRecordInto,
   verticesOf,
   recordsOf,
   rightSelectionMark,
@@ -343,4 +346,28 @@ pub fn put_record(table: &mut [u8], i: usize, r: Record)
 {
     let bytes = record_bytes(r);
     part::put_entry(table, i, RECORD_WIDTH, &bytes);
+}
+
+// ---- the writers of a whole mesh
+
+pub fn put_mesh_vertex(mesh: &mut [u8], i: u32, v: Vertex)
+    ensures { λ _. ⌜ now (mesh .exit) ≡ meshVertexInto (now (mesh .entry)) i v ⌝ }
+{
+    let bytes = vertex_bytes(v);
+    part::put_from(mesh, mesh_length(i, 0), &bytes);
+}
+
+// Records stand after all vertices, of which there are as many as is said.
+pub fn put_mesh_record(mesh: &mut [u8], vertices: u32, i: u32, r: Record)
+    ensures { λ _. ⌜ now (mesh .exit) ≡ meshRecordInto (now (mesh .entry)) vertices i r ⌝ }
+{
+    let bytes = record_bytes(r);
+    part::put_from(mesh, mesh_length(vertices, i), &bytes);
+}
+
+// A whole mesh at the front of a buffer, as far as there is room.
+pub fn put_bytes(out: &mut [u8], mesh: &[u8])
+    ensures { λ _. ⌜ now (out .exit) ≡ sets (now (out .entry)) 0 (now (mesh .entry)) ⌝ }
+{
+    part::put_from(out, 0, mesh);
 }

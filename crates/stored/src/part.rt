@@ -122,3 +122,12 @@ pub fn put_entry(table: &mut [u8], i: usize, width: usize, bytes: &[u8])
         put(table, width * i, bytes);
     }
 }
+
+// From any offset: past the end nothing is written.
+pub fn put_from(s: &mut [u8], at: usize, bytes: &[u8])
+    ensures { λ _. ⌜ now (s .exit) ≡ sets (now (s .entry)) at (now (bytes .entry)) ⌝ }
+{
+    if at <= s.len() {
+        put(s, at, bytes);
+    }
+}

@@ -1,15 +1,15 @@
-//! The time of the proved check and of the second program's, in one run. Prints a Markdown table:
-//! medians in milliseconds, and the ratio.
+//! The time of the proved check and build and of the second program's, in one run. Prints two Markdown
+//! tables: medians in milliseconds, and the ratio.
 
-use compared::meshes::{cubes, filled, full_base, open_leaves, refined, separate};
+use compared::meshes::{cubes, filled, full_base, open_leaves, refined, separate, Plain};
 use compared::random::Random;
-use compared::tmb_check;
+use compared::{tmb_build, tmb_check};
 use second::mesh::Mesh;
-use second::{check, Report};
+use second::{build, check, Report, LARGEST_MESH};
 use std::hint::black_box;
 use std::time::Instant;
 
-/// Runs of each check on each mesh; odd, so that one of them is the median.
+/// Runs of each check and build on each mesh; odd, so that one of them is the median.
 const RUNS: usize = 21;
 
 fn milliseconds(check: impl Fn(&[u8]) -> Report, mesh: &[u8]) -> f64 {
@@ -45,7 +45,52 @@ fn row(name: &str, mesh: &Mesh) {
     );
 }
 
+type Build = fn(u32, &[i16], &[u16], &mut [u8]) -> u32;
+
+/// The time of one build into a full-size buffer of bytes 255, and what stands in it afterwards.
+fn built(build: Build, coordinates: &[i16], corners: &[u16]) -> (f64, Vec<u8>) {
+    let mut out = vec![255; LARGEST_MESH];
+    let start = Instant::now();
+    let number = build(1, black_box(coordinates), black_box(corners), &mut out);
+    let time = start.elapsed().as_secs_f64() * 1_000.0;
+    assert_eq!(number, 0, "accepted");
+    (time, black_box(out))
+}
+
+fn build_row(name: &str, plain: &Plain) {
+    let (coordinates, corners) = (plain.places.concat(), plain.pieces.concat());
+    let (mut proved, mut second) = (Vec::new(), Vec::new());
+    for _ in 0..RUNS {
+        let (time, one) = built(tmb_build, &coordinates, &corners);
+        proved.push(time);
+        let (time, other) = built(build, &coordinates, &corners);
+        second.push(time);
+        assert!(one == other, "{name} gets one result");
+    }
+    let (proved, second) = (median(proved), median(second));
+    println!(
+        "| {name} | {} | {} | {} | {proved:.2} | {second:.2} | {:.1} |",
+        20 + 10 * plain.places.len() + 17 * plain.pieces.len(),
+        plain.places.len(),
+        plain.pieces.len(),
+        proved / second
+    );
+}
+
 fn main() {
+    checks();
+    println!();
+    builds();
+}
+
+fn builds() {
+    println!("| mesh | bytes | vertices | pieces | proved, ms | second, ms | ratio |");
+    println!("|---|---|---|---|---|---|---|");
+    build_row("5 by 5 by 5 cubes", &cubes([5, 5, 5], 64));
+    build_row("8 by 8 by 8 cubes", &cubes([8, 8, 8], 64));
+}
+
+fn checks() {
     let mut random = Random::new(1);
     println!(
         "| mesh | bytes | vertices | base records | all records | proved, ms | second, ms | ratio |"
