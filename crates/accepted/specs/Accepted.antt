@@ -10,8 +10,9 @@ use Rattle.algebra.specs.Multiple.{Multiple}
 use Rattle.piece.specs.declared.Piece.{Piece}
 use Rattle.piece.specs.declared.Ends.{Ends}
 use Rattle.piece.specs.Shape.{shapeOf, mark}
-use Rattle.piece.specs.Cut.{cornerAt, endsOf, cutOf}
-use Rattle.piece.specs.Theorems.{Valid}
+use Rattle.piece.specs.Ends.{cornerAt, endsOf}
+use Rattle.cutting.specs.Cut.{cutOf}
+use Rattle.cutting.specs.Theorems.{Valid}
 use Rattle.grid.specs.Places.{Point, pointOf}
 use Rattle.grid.specs.Corners.{Midpoint}
 use Rattle.stored.specs.Layout.{none, headerWidth, meshLength, byteAt, u16At}

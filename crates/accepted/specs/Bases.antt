@@ -7,10 +7,10 @@ use native.Mathlib.Omega.{arith}
 use lib.ListN.{length}
 use Rattle.laws.specs.Below.{anyBelow, allBelow}
 use Rattle.piece.specs.declared.Piece.{Piece}
-use Rattle.piece.specs.Edges.{lowSlot, highSlot}
+use Rattle.edges.specs.Edges.{lowSlot, highSlot}
 use Rattle.piece.specs.Shape.{shapeOf, mark, markFits, flagFits, validShape}
-use Rattle.piece.specs.Cut.{cornerAt}
-use Rattle.piece.specs.Theorems.{Valid, slots-small}
+use Rattle.piece.specs.Ends.{cornerAt}
+use Rattle.cutting.specs.Theorems.{Valid, slots-small}
 use Rattle.refusals.specs.Tables.{Tables, baseVertices, baseRecords, pieceAt, sixfoldAt}
 use Rattle.refusals.specs.Refusals.{equalCorners, cornerNotInBase, badPiece, badBaseRecord, badBaseRecords, badMarks, badlyMarked, badBaseMarks}
 use Rattle.accepted.specs.Tests.{Passes, Fails, reads, equal, below, not-below, not-at-most, not-fails, fails-unless, and-passes, or-passes, or-fails, all-pass, any-passes, none-passes}

@@ -7,7 +7,9 @@ use lib.ListN.{length, length-set}
 use Rattle.laws.specs.Below.{any-is, first-where, countBelow}
 use Rattle.piece.specs.declared.Piece.{Piece}
 use Rattle.piece.specs.declared.Ends.{Ends}
-use Rattle.piece.specs.Cut.{endsOf, childShape, childOf, lowerEnd, higherEnd, cutOf, samePiece, same-piece-is, same-piece-refl}
+use Rattle.piece.specs.Ends.{endsOf, lowerEnd, higherEnd}
+use Rattle.piece.specs.Same.{samePiece, same-piece-is, same-piece-refl}
+use Rattle.cutting.specs.Cut.{childShape, childOf, cutOf}
 use Rattle.stored.specs.Layout.{none, recordIn, recordFrom}
 use Rattle.refusals.specs.Tables.{Tables, tablesOf, baseVertices, allVertices, baseRecords, allRecords, pieceAt, isCut, hasParents, vertexWith, hangs, refinementEnds}
 use Rattle.refusals.specs.Refusals.{badChildren, badCut, isChildOf, notChildOfOne, tooDeep, badRecord, isMidpointOf, noMidpoint, badCuts, hangsAt, leafHangs, hangingEdge}

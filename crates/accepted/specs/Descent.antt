@@ -10,10 +10,11 @@ use lib.Dec.{eqb, ltb}
 use borrow.Author.Tests.{ltb-true, ltb-false, eqb-true, eqb-false}
 use Rattle.laws.specs.Below.{either}
 use Rattle.piece.specs.declared.Piece.{Piece}
-use Rattle.piece.specs.Edges.{lowSlot, highSlot, hasSlot}
+use Rattle.edges.specs.Edges.{lowSlot, highSlot, hasSlot}
 use Rattle.piece.specs.Shape.{shapeOf}
-use Rattle.piece.specs.Cut.{cornerAt, lowerEnd, higherEnd, childOf, cutOf}
-use Rattle.piece.specs.Theorems.{Valid, End, child-is-valid, slots-small}
+use Rattle.piece.specs.Ends.{cornerAt, lowerEnd, higherEnd}
+use Rattle.cutting.specs.Cut.{childOf, cutOf}
+use Rattle.cutting.specs.Theorems.{Valid, End, child-is-valid, slots-small}
 use Rattle.refusals.specs.Tables.{Tables, allVertices, baseRecords, allRecords, pieceAt}
 use Rattle.accepted.specs.Tests.{equal, or-passes}
 use Rattle.accepted.specs.Accepted.{RightMesh, RightCut, ChildOf, RightCuts}

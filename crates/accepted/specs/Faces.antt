@@ -7,7 +7,7 @@ use lib.Dec.{eqb}
 use Rattle.laws.specs.Below.{either}
 use Rattle.piece.specs.declared.Piece.{Piece}
 use Rattle.piece.specs.declared.Ends.{Ends}
-use Rattle.piece.specs.Cut.{cornerAt}
+use Rattle.piece.specs.Ends.{cornerAt}
 use Rattle.refusals.specs.Tables.{Tables, baseVertices, baseRecords, pieceAt}
 use Rattle.refusals.specs.Refusals.{hasCorner, faceHas, faceWithin, sameFace, sameEnds, sameMark, cornersWithin, sameCorners, twoMarksOn, twoMarks, hasFace, faceBefore, faceInThree, badTogether, badWith, badFaces, badBaseFaces, unusedVertex, unusedVertices}
 use Rattle.accepted.specs.Tests.{Passes, Fails, reads, equal, not-fails, not-passes, fails-unless, and-passes, and-fails, or-passes, or-fails, all-pass, any-passes, none-passes}

@@ -10,12 +10,13 @@ use borrow.Author.Tests.{ltb-true, ltb-false, eqb-true, eqb-false, ne-eqb}
 use Rattle.laws.specs.Below.{sumBelow, sum-same, either}
 use Rattle.algebra.specs.Multiple.{halves}
 use Rattle.piece.specs.declared.Piece.{Piece}
-use Rattle.piece.specs.Cut.{cornerAt, lowerEnd, higherEnd, endsOf, childOf, cutOf}
+use Rattle.piece.specs.Ends.{cornerAt, lowerEnd, higherEnd, endsOf}
+use Rattle.cutting.specs.Cut.{childOf, cutOf}
 use Rattle.grid.specs.Places.{Point}
-use Rattle.grid.specs.Volume.{determinantOf, differencesOf, sixfoldOf}
-use Rattle.grid.specs.Halving.{determinant-turned}
+use Rattle.volume.specs.Volume.{determinantOf, differencesOf, sixfoldOf}
+use Rattle.volume.specs.Halving.{determinant-turned}
 use Rattle.grid.specs.Corners.{putAt, exchanged, Midpoint}
-use Rattle.grid.specs.VolumeTheorems.{half-sixfold, sixfold-kept}
+use Rattle.volume.specs.VolumeTheorems.{half-sixfold, sixfold-kept}
 use Rattle.stored.specs.Layout.{none}
 use Rattle.refusals.specs.Tables.{Tables, baseRecords, allRecords, pieceAt, isLeaf, cornerPoint, sixfoldAt}
 use Rattle.refusals.specs.Refusals.{isChildOf}

@@ -12,7 +12,7 @@ use borrow.Author.Tests.{ltb-false}
 use Rattle.laws.specs.Below.{or-left-false, or-right-false, countBelow, count-none, count-suc, greatestBelow, greatest-none, greatest-suc}
 use Rattle.piece.specs.declared.Piece.{Piece}
 use Rattle.piece.specs.Shape.{shapeOf}
-use Rattle.piece.specs.Theorems.{Valid}
+use Rattle.cutting.specs.Theorems.{Valid}
 use Rattle.stored.specs.declared.Header.{Header}
 use Rattle.stored.specs.declared.Record.{Record}
 use Rattle.stored.specs.Layout.{none}
@@ -28,7 +28,7 @@ use Rattle.accepted.specs.Vertices.{rule4-holds}
 use Rattle.accepted.specs.Bases.{rule5-holds}
 use Rattle.accepted.specs.Faces.{rule7-holds, rule8-holds}
 use Rattle.accepted.specs.Exactly.{accepts-exactly}
-use Rattle.mark.specs.Marking.{plainVertex, plainPiece, markedPiece, plainRecord}
+use Rattle.marking.specs.Marking.{plainVertex, plainPiece, markedPiece, plainRecord}
 use Rattle.mark.specs.Build.{notWhole, plainHeader, plainMesh, plainBytes, buildRows, buildNumber}
 use Rattle.built.specs.Edges.{Different}
 use Rattle.built.specs.Marks.{marked-valid}

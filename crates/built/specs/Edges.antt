@@ -7,9 +7,9 @@ use lib.Dec.{ltb}
 use borrow.Author.Tests.{ltb-true, ltb-false}
 use Rattle.laws.specs.Below.{foldBelow, allBelow, either}
 use Rattle.piece.specs.declared.Piece.{Piece}
-use Rattle.piece.specs.Edges.{lowSlot, highSlot}
-use Rattle.piece.specs.Cut.{cornerAt, lowerEnd, higherEnd, endsOf}
-use Rattle.piece.specs.Theorems.{SamePair, slots-small}
+use Rattle.edges.specs.Edges.{lowSlot, highSlot}
+use Rattle.piece.specs.Ends.{cornerAt, lowerEnd, higherEnd, endsOf}
+use Rattle.cutting.specs.Theorems.{SamePair, slots-small}
 use Rattle.accepted.specs.Tests.{equal, not-passes, fails-unless, and-passes, or-passes, all-pass}
 
 -- The corners of a piece are four different vertices.

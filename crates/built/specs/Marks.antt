@@ -11,15 +11,15 @@ use lib.Dec.{eqb}
 use borrow.Author.Tests.{eqb-true, eqb-false}
 use Rattle.laws.specs.Below.{foldBelow, anyBelow, allBelow, all-at, any-is, first-where, either}
 use Rattle.piece.specs.declared.Piece.{Piece}
-use Rattle.piece.specs.Edges.{lowSlot, highSlot, hasSlot, onFace}
+use Rattle.edges.specs.Edges.{lowSlot, highSlot, hasSlot, onFace}
 use Rattle.piece.specs.Shape.{shapeOf, mark, markFits, flagFits}
-use Rattle.piece.specs.Theorems.{Valid}
+use Rattle.cutting.specs.Theorems.{Valid}
 use Rattle.grid.specs.Lengths.{ranksBefore}
 use Rattle.grid.specs.RankingTheorems.{irreflexive, transitive, total}
 use Rattle.refusals.specs.Refusals.{badMarks}
 use Rattle.accepted.specs.Tests.{Passes, reads, equal, not-below, not-fails, not-passes, and-passes, and-fails, or-fails, none-passes}
 use Rattle.accepted.specs.Bases.{valid-is}
-use Rattle.mark.specs.Marking.{rankOf, outranked, firstRanked, markedPiece}
+use Rattle.marking.specs.Marking.{rankOf, outranked, firstRanked, markedPiece}
 use Rattle.built.specs.First.{FirstOf, first-exists}
 use Rattle.built.specs.Edges.{Different, edge-by-ends}
 

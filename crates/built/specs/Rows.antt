@@ -11,20 +11,20 @@ use Rattle.laws.specs.Below.{foldBelow, allBelow, anyBelow, firstBelow, listBel
 use Rattle.laws.specs.Lists.{joined}
 use Rattle.laws.specs.Numbers.{number, numberBytes}
 use Rattle.piece.specs.declared.Piece.{Piece}
-use Rattle.piece.specs.Edges.{lowSlot, highSlot, hasSlot, joins, edgeBetween, onFace, opposite, oppositeOn}
+use Rattle.edges.specs.Edges.{lowSlot, highSlot, hasSlot, joins, edgeBetween, onFace, opposite, oppositeOn}
 use Rattle.piece.specs.Shape.{shapeOf, slotA, slotB, slotC, slotD, edgeCD, otherMarksAre, typeA}
-use Rattle.piece.specs.Cut.{lowerEnd, higherEnd, endsOf}
+use Rattle.piece.specs.Ends.{lowerEnd, higherEnd, endsOf}
 use Rattle.grid.specs.Places.{coordinate, coordinateOnGrid, onGrid, samePlace}
 use Rattle.grid.specs.Lengths.{squaredLength, ranksBefore}
-use Rattle.grid.specs.Volume.{minorOf, determinantOf, differenceOf, differencesOf, sixfoldOf}
+use Rattle.volume.specs.Volume.{minorOf, determinantOf, differenceOf, differencesOf, sixfoldOf}
 use Rattle.stored.specs.Layout.{meshBytes, headerBytes, markBytes, headerOf, verticesOf, vertexIn, vertexFrom, vertexBytes, recordsOf, recordIn, recordFrom, recordBytes}
 use Rattle.refusals.specs.Tables.{tablesOf, sixfoldAt}
 use Rattle.refusals.specs.Refusals.{wrongCounts, badVertices, badVertex, badBaseVertex, placeTwice, badBaseRecords, badBaseRecord, badPiece, equalCorners, cornerNotInBase, badBaseFaces, badFaces, badWith, unusedVertices, unusedVertex, hasCorner}
 use Rattle.refusals.specs.Check.{firstBroken}
 use Rattle.accepted.specs.Tests.{below, all-pass}
-use Rattle.mark.specs.Marking.{placeFor, plainPlace, plainVertex, plainPiece, rankOf, outranked, firstRanked, markedPiece, plainRecord}
+use Rattle.marking.specs.Marking.{placeFor, plainPlace, plainVertex, plainPiece, rankOf, outranked, firstRanked, markedPiece, plainRecord}
 use Rattle.mark.specs.Build.{notWhole, plainHeader, plainMesh, plainBytes, buildRows, buildNumber}
-use Rattle.mark.specs.Rows.{K-coordinates, K-corners, K-marked}
+use Rattle.marking.specs.Rows.{K-coordinates, K-corners, K-marked}
 use Rattle.built.specs.Written.{Given, plain-length}
 
 -- K's piece as build marks it.

@@ -8,17 +8,17 @@ use lib.IntN.{ℤ}
 use Rattle.laws.specs.Below.{foldBelow, anyBelow, any-fails, allBelow}
 use Rattle.piece.specs.declared.Piece.{Piece}
 use Rattle.piece.specs.declared.Ends.{Ends}
-use Rattle.piece.specs.Edges.{lowSlot, highSlot, hasSlot, onFace}
+use Rattle.edges.specs.Edges.{lowSlot, highSlot, hasSlot, onFace}
 use Rattle.piece.specs.Shape.{shapeOf, mark}
-use Rattle.piece.specs.Cut.{cornerAt, lowerEnd, higherEnd, endsOf}
-use Rattle.piece.specs.Theorems.{SamePair, slots-small}
+use Rattle.piece.specs.Ends.{cornerAt, lowerEnd, higherEnd, endsOf}
+use Rattle.cutting.specs.Theorems.{SamePair, slots-small}
 use Rattle.grid.specs.Places.{pointOf}
 use Rattle.grid.specs.Lengths.{squaredLength}
 use Rattle.refusals.specs.Refusals.{faceHas, faceWithin, sameFace, sameEnds, sameMark, twoMarksOn, twoMarks}
 use Rattle.accepted.specs.Tests.{Passes, equal, below, not-passes, fails-unless, not-fails, and-passes, and-fails, or-passes, or-fails, all-pass, any-passes}
 use Rattle.accepted.specs.Accepted.{OnFace, SameFace, markedEnds}
 use Rattle.accepted.specs.Bases.{slots-apart}
-use Rattle.mark.specs.Marking.{plainPlace, rankOf, markedPiece}
+use Rattle.marking.specs.Marking.{plainPlace, rankOf, markedPiece}
 use Rattle.built.specs.Edges.{Different, ends-same}
 use Rattle.built.specs.Marks.{FirstRanked, first-unique, mark-is-first}
 

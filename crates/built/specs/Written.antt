@@ -8,13 +8,13 @@ use lib.ListN.{length, getD}
 use lib.IntN.{ℤ, pos}
 use Rattle.laws.specs.Below.{list-length, list-at}
 use Rattle.laws.specs.Lists.{bytes-none, bytes-cons}
-use Rattle.piece.specs.Edges.{onFace}
+use Rattle.edges.specs.Edges.{onFace}
 use Rattle.piece.specs.declared.Piece.{Piece}
 use Rattle.stored.specs.Layout.{meshLength}
 use Rattle.stored.specs.Fitting.{U16, U32, VertexFits, RecordFits, MeshFits}
 use Rattle.stored.specs.Meshes.{mesh-header, mesh-vertex, mesh-record, mesh-length}
 use Rattle.refusals.specs.Tables.{Tables, tablesOf}
-use Rattle.mark.specs.Marking.{placeFor, plainPlace, plainVertex, plainPiece, firstRanked, markedPiece, plainRecord}
+use Rattle.marking.specs.Marking.{placeFor, plainPlace, plainVertex, plainPiece, firstRanked, markedPiece, plainRecord}
 use Rattle.mark.specs.Build.{plainHeader, plainMesh, plainBytes}
 use Rattle.built.specs.First.{first-at-most}
 

@@ -5,7 +5,7 @@ use stored::Header;
 use stored::Record;
 ghost use mathlib.Core.Path.{_≡_};
 ghost use Rattle.laws.specs.Below.{anyBelow, countBelow, bit};
-ghost use Rattle.piece.specs.Cut.{samePiece};
+ghost use Rattle.piece.specs.Same.{samePiece};
 ghost use Rattle.stored.specs.Layout.{recordIn};
 ghost use Rattle.refusals.specs.Tables.{tables};
 ghost use Rattle.refusals.specs.Refusals.{
@@ -44,7 +44,7 @@ fn bad_children(h: Header, vertices: &[u8], records: &[u8], n: usize, r: Record)
     if h.records as usize <= first + 1 {
         return true;
     }
-    let given = piece::cut(p, w as u32);
+    let given = cutting::cut(p, w as u32);
     let one = given.first;
     let other = given.second;
     if !holds(records, first, one) {

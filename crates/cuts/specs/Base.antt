@@ -3,7 +3,7 @@ use mathlib.Core.Path.{_≡_}
 use mathlib.Core.Logic.{_≢_, _↔_}
 use Prim.Native.Nat.{ℕ, _<_}
 use Rattle.piece.specs.Shape.{mark}
-use Rattle.piece.specs.Theorems.{Valid}
+use Rattle.cutting.specs.Theorems.{Valid}
 use Rattle.cuts.specs.Names as Names
 use Rattle.cuts.specs.Names.{Name}
 use Rattle.cuts.specs.Pieces.{Piece, midOf}

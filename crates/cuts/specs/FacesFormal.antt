@@ -10,10 +10,10 @@ use lib.ListN.{length, getD}
 use lib.Dec.{eqb, ltb}
 use borrow.Author.Tests.{eqb-true, eqb-false, eq-eqb, ne-eqb, ltb-true, lt-ltb, le-ltb, not-true}
 use Rattle.laws.specs.Below.{foldBelow, allBelow, anyBelow, sumBelow, sum-same, all-at, any-where, any-is, and-left, and-right, or-second, either, bit, listBelow, list-at}
-use Rattle.piece.specs.Edges.{lowSlot, highSlot, hasSlot, opposite}
+use Rattle.edges.specs.Edges.{lowSlot, highSlot, hasSlot, opposite}
 use Rattle.piece.specs.Shape.{Shape, mark, unset}
 use Rattle.piece.specs.Every.{everyShape, every-shape, onlyIf, onlyIf-holds}
-use Rattle.piece.specs.Theorems.{Valid, SamePair, slots-small}
+use Rattle.cutting.specs.Theorems.{Valid, SamePair, slots-small}
 use Rattle.cuts.specs.Pieces.{Piece, Side, low, high}
 use Rattle.cuts.specs.Three.{formal, formalDown}
 use Rattle.cuts.specs.Macro.{everyBelow, every-below, computed, formal-small}

@@ -5,8 +5,8 @@ use Prim.Native.Nat.{ℕ, zero, suc, _+_, _-_, _*_, _/_, _^_, _<_, _≤_, max}
 use native.Mathlib.Omega.{arith}
 use native.Mathlib.Nat.{mul-assoc, mul-add, add-mul, pow-suc, two-pow-succ}
 use lib.Dec.{eqb}
-use Rattle.piece.specs.Edges.{lowSlot, highSlot}
-use Rattle.piece.specs.Theorems.{slots-small}
+use Rattle.edges.specs.Edges.{lowSlot, highSlot}
+use Rattle.cutting.specs.Theorems.{slots-small}
 use Rattle.cuts.specs.Lists.{either-has}
 use Rattle.cuts.specs.Names as Names
 use Rattle.cuts.specs.Names.{Name, mid, level, level-mid}

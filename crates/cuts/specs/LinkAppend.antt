@@ -7,10 +7,10 @@ use native.Mathlib.Omega.{arith}
 use lib.Dec.{eqb, ltb}
 use borrow.Author.Tests.{eqb-true, eqb-false, ltb-true, ltb-false}
 use Rattle.laws.specs.Below.{either}
-use Rattle.piece.specs.Edges.{lowSlot, highSlot}
+use Rattle.edges.specs.Edges.{lowSlot, highSlot}
 use Rattle.piece.specs.Shape.{Shape, mark}
-use Rattle.piece.specs.Cut.{childShape}
-use Rattle.piece.specs.Theorems.{slots-small}
+use Rattle.cutting.specs.Cut.{childShape}
+use Rattle.cutting.specs.Theorems.{slots-small}
 use Rattle.cuts.specs.Lists.{both-ways}
 use Rattle.cuts.specs.Names.{mid}
 use Rattle.cuts.specs.Pieces.{Side, low, high, Node, kid}

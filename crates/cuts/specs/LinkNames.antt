@@ -6,9 +6,9 @@ use native.Mathlib.Omega.{arith}
 use lib.Dec.{ltb}
 use borrow.Author.Tests.{ltb-true, ltb-false, lt-ltb, le-ltb}
 use Rattle.laws.specs.Below.{either}
-use Rattle.piece.specs.Edges.{lowSlot, highSlot}
+use Rattle.edges.specs.Edges.{lowSlot, highSlot}
 use Rattle.piece.specs.Shape.{mark}
-use Rattle.piece.specs.Theorems.{SamePair}
+use Rattle.cutting.specs.Theorems.{SamePair}
 use Rattle.cuts.specs.Names as Names
 use Rattle.cuts.specs.Names.{Name, mid, mid-sym, mid-injective, mid-not-base}
 use Rattle.cuts.specs.Base.{Marked, HasCorner, OnFace}

@@ -9,9 +9,9 @@ use lib.ListN.{length}
 use lib.Dec.{eqb}
 use borrow.Author.Tests.{eqb-true, eq-eqb, ne-eqb, lt-ltb, le-ltb}
 use Rattle.laws.specs.Below.{either, and-left, and-right, or-true, or-second, any-is, first-where}
-use Rattle.piece.specs.Edges.{lowSlot, highSlot}
+use Rattle.edges.specs.Edges.{lowSlot, highSlot}
 use Rattle.piece.specs.Shape.{slotA, slotB}
-use Rattle.piece.specs.Theorems.{Valid}
+use Rattle.cutting.specs.Theorems.{Valid}
 use Rattle.cuts.specs.Lists.{either-has}
 use Rattle.cuts.specs.Names.{Name, mid}
 use Rattle.cuts.specs.Pieces.{Piece, Side, low, high, endAt, renamed, child-renamed, childWith, child, Node, kid, makes, pieceAt, piece-root, piece-kid}

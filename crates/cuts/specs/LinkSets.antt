@@ -9,8 +9,8 @@ use lib.ListN.{length}
 use lib.Dec.{ltb}
 use borrow.Author.Tests.{ltb-false, lt-ltb, le-ltb, not-true}
 use Rattle.laws.specs.Below.{either, and-left, and-right, any-is, any-where, countBelow, count-none, count-suc}
-use Rattle.piece.specs.Edges.{lowSlot, highSlot}
-use Rattle.piece.specs.Theorems.{slots-small}
+use Rattle.edges.specs.Edges.{lowSlot, highSlot}
+use Rattle.cutting.specs.Theorems.{slots-small}
 use Rattle.cuts.specs.Lists.{among, same-tests}
 use Rattle.cuts.specs.Names.{Name, mid-injective, sameName, name-equality}
 use Rattle.cuts.specs.Pieces.{Side, Node, kid, pieceAt, makes}

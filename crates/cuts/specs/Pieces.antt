@@ -5,9 +5,9 @@ use mathlib.Core.List.{List, [], _∷_}
 use Prim.Native.Nat.{ℕ}
 use lib.ListN.{length}
 use lib.Dec.{eqb}
-use Rattle.piece.specs.Edges.{lowSlot, highSlot}
+use Rattle.edges.specs.Edges.{lowSlot, highSlot}
 use Rattle.piece.specs.Shape.{Shape, slotA, slotB}
-use Rattle.piece.specs.Cut.{childShape}
+use Rattle.cutting.specs.Cut.{childShape}
 use Rattle.cuts.specs.Names.{Name, mid}
 
 -- A piece is a shape and a corner in each slot.

@@ -12,7 +12,7 @@ use borrow.Author.Tests.{eqb-true, eqb-false}
 use Rattle.laws.specs.Below.{bit, either, anyBelow, listBelow}
 use Rattle.piece.specs.Shape.{Shape, mark}
 use Rattle.piece.specs.Every.{shaped}
-use Rattle.piece.specs.Theorems.{Valid}
+use Rattle.cutting.specs.Theorems.{Valid}
 use Rattle.cuts.specs.Names as Names
 use Rattle.cuts.specs.Lists.{among, passing}
 use Rattle.cuts.specs.Names.{Name, mid, named}

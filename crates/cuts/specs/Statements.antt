@@ -6,9 +6,9 @@ use mathlib.Core.List.{List, []}
 use Prim.Native.Nat.{ℕ, suc, _+_, _-_, _*_, _/_, _<_, _≤_, max}
 use lib.ListN.{length}
 use Rattle.laws.specs.Below.{countBelow}
-use Rattle.piece.specs.Edges.{lowSlot, highSlot}
+use Rattle.edges.specs.Edges.{lowSlot, highSlot}
 use Rattle.piece.specs.Shape.{Shape, slotA, slotB}
-use Rattle.piece.specs.Theorems.{Valid, SamePair}
+use Rattle.cutting.specs.Theorems.{Valid, SamePair}
 use Rattle.cuts.specs.Names as Names
 use Rattle.cuts.specs.Names.{Name, mid, level}
 use Rattle.cuts.specs.Pieces.{Piece, Side, low, high, childWith, renamed, makes, child, Node, generation, kid, pieceDown, pieceAt}

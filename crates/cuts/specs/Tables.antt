@@ -7,10 +7,10 @@ use mathlib.Core.List.{[]}
 use Prim.Native.Nat.{ℕ, suc, _≤_, _<_}
 use lib.Dec.{eqb, ltb}
 use Rattle.laws.specs.Below.{anyBelow, firstBelow}
-use Rattle.piece.specs.Edges.{lowSlot, highSlot}
+use Rattle.edges.specs.Edges.{lowSlot, highSlot}
 use Rattle.piece.specs.Shape.{Shape, mark}
-use Rattle.piece.specs.Cut.{childShape}
-use Rattle.piece.specs.Theorems.{Valid, SamePair}
+use Rattle.cutting.specs.Cut.{childShape}
+use Rattle.cutting.specs.Theorems.{Valid, SamePair}
 use Rattle.cuts.specs.Names as Names
 use Rattle.cuts.specs.Names.{Name, mid}
 use Rattle.cuts.specs.Pieces.{Piece, Side, low, high, put, Node, kid}

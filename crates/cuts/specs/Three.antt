@@ -5,7 +5,7 @@ use mathlib.Core.List.{List, [], _∷_}
 use Prim.Native.Nat.{ℕ, suc, _+_, _-_, _<_, _≤_}
 use lib.Dec.{ltb}
 use Rattle.piece.specs.Shape.{Shape}
-use Rattle.piece.specs.Theorems.{Valid}
+use Rattle.cutting.specs.Theorems.{Valid}
 use Rattle.cuts.specs.Names.{Name, level}
 use Rattle.cuts.specs.Pieces.{Piece, Side, childWith, midOf}
 

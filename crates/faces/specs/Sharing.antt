@@ -8,7 +8,7 @@ use lib.Dec.{eqb}
 use borrow.Author.Tests.{eqb-true, eqb-false}
 use Rattle.laws.specs.Below.{anyBelow, any-is, any-where, any-fails, allBelow, all-at, countBelow, count-none, count-suc, bit, and-left, and-right, or-second, either}
 use Rattle.piece.specs.declared.Piece.{Piece}
-use Rattle.piece.specs.Cut.{cornerAt}
+use Rattle.piece.specs.Ends.{cornerAt}
 use Rattle.refusals.specs.Tables.{Tables}
 use Rattle.refusals.specs.Refusals.{hasCorner, faceHas, faceWithin, sameFace, cornersWithin, sameCorners, twoMarksOn, twoMarks, hasFace, faceBefore, faceInThree, badTogether}
 

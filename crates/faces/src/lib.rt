@@ -6,7 +6,7 @@ ghost use mathlib.Core.Path.{_≡_};
 ghost use mathlib.Core.Bool.{not, _&&_, _||_};
 ghost use lib.Dec.{eqb};
 ghost use Rattle.laws.specs.Below.{anyBelow, bit};
-ghost use Rattle.piece.specs.Cut.{cornerAt};
+ghost use Rattle.piece.specs.Ends.{cornerAt};
 ghost use Rattle.stored.specs.Layout.{recordIn};
 ghost use Rattle.refusals.specs.Tables.{tables};
 ghost use Rattle.refusals.specs.Refusals.{
@@ -30,32 +30,13 @@ ghost use Rattle.refusals.specs.Refusals.{
 };
 ghost use Rattle.faces.specs.Sharing.{sharedCorners};
 
-fn corner_is(p: Piece, x: u32, k: u8) -> bool
-    ensures { λ r. ⌜ r ≡ eqb (cornerAt p k) x ⌝ }
-{
-    piece::corner(p, k) == x
-}
-
-fn has_corner(p: Piece, x: u32) -> bool
-    ensures { λ r. ⌜ r ≡ hasCorner p x ⌝ }
-{
-    let mut k: u8 = 0;
-    while k < 4 {
-        if corner_is(p, x, k) {
-            return true;
-        }
-        k += 1;
-    }
-    false
-}
-
 fn face_corner_is(p: Piece, i: u8, x: u32, k: u8) -> bool
     ensures { λ r. ⌜ r ≡ (not (eqb k i) && eqb (cornerAt p k) x) ⌝ }
 {
     if k == i {
         return false;
     }
-    corner_is(p, x, k)
+    piece::corner(p, k) == x
 }
 
 fn face_has(p: Piece, i: u8, x: u32) -> bool
@@ -122,7 +103,7 @@ fn same_mark(p: Piece, i: u8, q: Piece, j: u8) -> bool
 fn shares(p: Piece, q: Piece, k: u8) -> bool
     ensures { λ r. ⌜ r ≡ hasCorner q (cornerAt p k) ⌝ }
 {
-    has_corner(q, piece::corner(p, k))
+    refusals::has_corner(q, piece::corner(p, k))
 }
 
 fn corners_within(p: Piece, q: Piece) -> bool

@@ -1,14 +1,7 @@
 pub mod Places
-pub mod Volume
 pub mod Lengths
 pub mod PlaceLaws
 pub mod LengthLaws
-pub mod Exact
-pub mod VolumeLaws
 pub mod Corners
-pub mod Formal
-pub mod Halving
-pub mod VolumeTheorems
 pub mod GridTheorems
 pub mod RankingTheorems
-pub mod Rows

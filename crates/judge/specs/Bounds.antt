@@ -1,49 +1,18 @@
--- What refusal 3 leaves of the counts, and the bound that it puts on a sum of volumes.
-use mathlib.Core.Path.{_≡_}
-use mathlib.Core.Bool.{Bool, true, false, cond, _||_}
+-- How large the sum of the leaves' sixfold volumes can be.
+use mathlib.Core.Bool.{Bool, true, false, cond}
 use Prim.Native.Nat.{ℕ, _*_, _^_, _≤_}
 use native.Mathlib.Omega.{arith}
-use lib.Dec.{ltb}
-use borrow.Author.Tests.{ltb-false}
 use mathlib.Core.List.{List}
-use Rattle.laws.specs.Below.{or-left-false, or-right-false}
 use Rattle.piece.specs.declared.Piece.{Piece}
-use Rattle.piece.specs.Cut.{cornerAt}
+use Rattle.piece.specs.Ends.{cornerAt}
 use Rattle.grid.specs.declared.Place.{Place}
 use Rattle.grid.specs.PlaceLaws.{Held}
-use Rattle.grid.specs.Volume.{sixfoldOf, differencesOf}
-use Rattle.grid.specs.VolumeLaws.{sixfold-within}
+use Rattle.volume.specs.Volume.{sixfoldOf, differencesOf}
+use Rattle.volume.specs.VolumeLaws.{sixfold-within}
 use Rattle.stored.specs.declared.Header.{Header}
 use Rattle.stored.specs.Layout.{vertexIn, vertexFrom}
-use Rattle.refusals.specs.Tables.{Tables, tables, isLeaf, pieceAt, sixfoldAt}
-use Rattle.refusals.specs.Refusals.{limits, wrongCounts}
+use Rattle.refusals.specs.Tables.{tables, isLeaf, pieceAt, sixfoldAt}
 use Rattle.refusals.specs.Check.{leafSixfold}
-
--- "At most 1,024 vertices and 3,072 records", and base at most all.
-pub record Bounded (h : Header) : Type 0 where
-  pub vertices : h .vertices ≤ 1024
-  pub records : h .records ≤ 3072
-  pub baseVertices : h .«base_vertices» ≤ h .vertices
-  pub baseRecords : h .«base_records» ≤ h .records
-
-pub bounded : (h : Header) → wrongCounts limits h ≡ false → Bounded h
-unfolding wrongCounts
-bounded h e =
-    let a = ltb 1024 (h .vertices) in
-    let b = ltb 3072 (h .records) in
-    let c = ltb (h .«base_vertices») 4 in
-    let d = ltb (h .«base_records») 1 in
-    let f = ltb (h .vertices) (h .«base_vertices») in
-    let g = ltb (h .records) (h .«base_records») in
-    let abcdf = or-left-false (a || b || c || d || f) g e in
-    let abcd = or-left-false (a || b || c || d) f abcdf in
-    let ab = or-left-false (a || b) c (or-left-false (a || b || c) d abcd) in
-    record {
-      vertices = ltb-false 1024 (h .vertices) (or-left-false a b ab);
-      records = ltb-false 3072 (h .records) (or-right-false a b ab);
-      baseVertices = ltb-false (h .vertices) (h .«base_vertices») (or-right-false (a || b || c || d) f abcdf);
-      baseRecords = ltb-false (h .records) (h .«base_records») (or-right-false (a || b || c || d || f) g e);
-    }
 
 -- Every place that is read is a u16.
 place-held : (t : List ℕ) (v : ℕ) → Held (vertexIn t v .place)

@@ -1,4 +1,3 @@
--- What check's own parts rest on: bounds on the counts, the table of uses, the place found hanging.
+-- What check's own parts rest on: how large its sum can be, and the rules in their order.
 pub mod Bounds
-pub mod Uses
-pub mod Hanging
+pub mod Order

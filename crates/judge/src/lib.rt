@@ -1,17 +1,15 @@
 // Check: judges a stored mesh.
 mod figures;
-mod hanging;
-mod uses;
 
 use hanging::Found;
 use refusals::Report;
 use stored::Header;
 ghost use mathlib.Core.Path.{_≡_};
 ghost use Rattle.refusals.specs.Tables.{tables};
-ghost use Rattle.refusals.specs.Refusals.{limits, wrongCounts, unusedVertices};
+ghost use Rattle.refusals.specs.Refusals.{limits, wrongCounts};
 ghost use Rattle.refusals.specs.Check.{refusedWith, accepted, checkOf};
-ghost use Rattle.judge.specs.Bounds.{Bounded};
-ghost use Rattle.judge.specs.Hanging.{closedReport, judgedReport};
+ghost use Rattle.refusals.specs.Bounded.{Bounded};
+ghost use Rattle.judge.specs.Order.{closedReport, judgedReport};
 
 fn refused(number: u64) -> Report
     ensures { λ r. ⌜ r ≡ refusedWith number ⌝ }
@@ -46,13 +44,6 @@ fn wrong_counts(h: Header) -> bool
         return true;
     }
     h.records < h.base_records
-}
-
-// Refusal 8.
-pub fn unused_vertices(h: Header, vertices: &[u8], records: &[u8]) -> bool
-    ensures { λ r. ⌜ r ≡ unusedVertices (tables h (now (vertices .entry)) (now (records .entry))) ⌝ }
-{
-    uses::unused_vertices(h, vertices, records)
 }
 
 // What the tables are accepted with.
@@ -106,7 +97,7 @@ fn judged(h: Header, vertices: &[u8], records: &[u8]) -> Report
     if faces::bad_base_faces(h, vertices, records) {
         return refused(7);
     }
-    if unused_vertices(h, vertices, records) {
+    if uses::unused_vertices(h, vertices, records) {
         return refused(8);
     }
     if children::bad_cuts(h, vertices, records) {
@@ -118,13 +109,13 @@ fn judged(h: Header, vertices: &[u8], records: &[u8]) -> Report
 pub fn check(mesh: &[u8]) -> Report
     ensures { λ r. ⌜ r ≡ checkOf (now (mesh .entry)) ⌝ }
 {
-    if !stored::right_length(mesh) {
+    if !headers::right_length(mesh) {
         return refused(1);
     }
-    if !stored::right_mark(mesh) {
+    if !headers::right_mark(mesh) {
         return refused(2);
     }
-    let h = stored::header_of(mesh);
+    let h = headers::header_of(mesh);
     if wrong_counts(h) {
         return refused(3);
     }

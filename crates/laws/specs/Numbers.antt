@@ -78,7 +78,10 @@ pub number-two : (at : ℕ) (s : List ℕ) → number 2 (drop at s) ≡ getD s a
 unfolding number
 number-two at s = rw (drop-drop 1 at s, getD-drop at s 0 0, getD-drop (at + 1) s 0 0, add-zero at, add-zero (at + 1)) (omega arith)
 
--- Where entry i of width w begins, told by a quotient: within n, or not.
+-- Where entry i of width w begins: at 0 where entries are empty, else told by a quotient, within n or not.
+pub entry-empty : (w i : ℕ) → w ≡ 0 → 0 ≡ w * i
+entry-empty w i e = rw e (omega arith)
+
 pub entry-within : (w i n : ℕ) → 0 < w → i ≤ n / w → w * i ≤ n
 entry-within w i n h e = rw (mul-comm w i) (le-div-iff-mul-le h .0 e)
 

@@ -11,7 +11,7 @@ use Rattle.stored.specs.Layout.{Mesh, meshBytes}
 use Rattle.refusals.specs.Tables.{Tables, tablesOf}
 use Rattle.refusals.specs.Refusals.{limits, wrongCounts, badVertices, badBaseRecords, badBaseFaces, unusedVertices}
 use Rattle.refusals.specs.Check.{Row, row, firstBroken}
-use Rattle.mark.specs.Marking.{plainVertex, plainRecord}
+use Rattle.marking.specs.Marking.{plainVertex, plainRecord}
 
 -- 21: "coordinates not three a vertex, or corners not four a piece"
 unfoldable pub notWhole : List ℤ → List ℕ → Bool

@@ -22,8 +22,8 @@ use Rattle.stored.specs.Tables.{header-length}
 use Rattle.refusals.specs.Tables.{Tables, tables, tablesOf}
 use Rattle.refusals.specs.Refusals.{limits, wrongCounts, badVertices, badBaseRecords, badBaseFaces, unusedVertices}
 use Rattle.refusals.specs.Check.{row, firstBroken}
-use Rattle.judge.specs.Bounds.{Bounded, bounded}
-use Rattle.mark.specs.Marking.{plainVertex, plainRecord}
+use Rattle.refusals.specs.Bounded.{Bounded, bounded}
+use Rattle.marking.specs.Marking.{plainVertex, plainRecord}
 use Rattle.mark.specs.Build.{notWhole, plainHeader, plainMesh, plainBytes, buildRows, buildNumber, buildBytes}
 
 -- ---- the parts

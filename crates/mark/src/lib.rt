@@ -1,6 +1,4 @@
 // Build: marks a plain mesh and stores it.
-mod marking;
-
 use stored::Header;
 ghost use mathlib.Core.Path.{_≡_};
 ghost use mathlib.Core.Bool.{false};
@@ -8,7 +6,7 @@ ghost use lib.ListN.{length, replicate};
 ghost use Rattle.stored.specs.Layout.{headerOf};
 ghost use Rattle.refusals.specs.Tables.{tablesOf};
 ghost use Rattle.refusals.specs.Refusals.{limits, wrongCounts};
-ghost use Rattle.judge.specs.Bounds.{Bounded};
+ghost use Rattle.refusals.specs.Bounded.{Bounded};
 ghost use Rattle.mark.specs.Build.{notWhole, plainHeader, plainBytes, buildNumber, buildBytes};
 ghost use Rattle.mark.specs.Storing.{verticesPut, recordsPut, meshPut, judgedNumber, laterNumber, laterBytes};
 
@@ -77,7 +75,7 @@ fn put_vertices(mesh: &mut [u8], coordinates: &[i16], count: u32)
 {
     let mut i: u32 = 0;
     while i < count {
-        stored::put_mesh_vertex(mesh, i, marking::plain_vertex(coordinates, i));
+        written::put_mesh_vertex(mesh, i, marking::plain_vertex(coordinates, i));
         i += 1;
     }
 }
@@ -87,7 +85,7 @@ fn put_records(mesh: &mut [u8], coordinates: &[i16], corners: &[u16], vertices: 
 {
     let mut i: u32 = 0;
     while i < count {
-        stored::put_mesh_record(
+        written::put_mesh_record(
             mesh,
             vertices,
             i,
@@ -100,7 +98,7 @@ fn put_records(mesh: &mut [u8], coordinates: &[i16], corners: &[u16], vertices: 
 fn put_mesh(mesh: &mut [u8], h: Header, coordinates: &[i16], corners: &[u16])
     ensures { λ _. ⌜ now (mesh .exit) ≡ meshPut (now (mesh .entry)) h (now (coordinates .entry)) (now (corners .entry)) ⌝ }
 {
-    stored::put_header(mesh, h);
+    written::put_header(mesh, h);
     put_vertices(mesh, coordinates, h.vertices);
     put_records(mesh, coordinates, corners, h.vertices, h.records);
 }
@@ -110,7 +108,7 @@ fn judged(mesh: &[u8]) -> u32
     requires { ⌜ Bounded (headerOf (now mesh)) ⌝ }
     ensures { λ r. ⌜ r ≡ judgedNumber (tablesOf (now (mesh .entry))) ⌝ }
 {
-    let h = stored::header_of(mesh);
+    let h = headers::header_of(mesh);
     let vertices = stored::vertices_of(mesh);
     let records = stored::records_of(mesh);
     if places::bad_vertices(h, vertices, records) {
@@ -122,7 +120,7 @@ fn judged(mesh: &[u8]) -> u32
     if faces::bad_base_faces(h, vertices, records) {
         return 7;
     }
-    if judge::unused_vertices(h, vertices, records) {
+    if uses::unused_vertices(h, vertices, records) {
         return 8;
     }
     0
@@ -142,7 +140,7 @@ fn finish(mesh: &[u8], out: &mut [u8]) -> u32
     if out.len() < mesh.len() {
         return 20;
     }
-    stored::put_bytes(out, mesh);
+    written::put_bytes(out, mesh);
     0
 }
 
@@ -156,7 +154,7 @@ fn store(job: u32, coordinates: &[i16], corners: &[u16], out: &mut [u8]) -> u32
     let h = plain_header(job, coordinates, corners);
     let mut work = [0u8; MOST];
     put_mesh(&mut work, h, coordinates, corners);
-    let n = stored::mesh_length(h.vertices, h.records);
+    let n = headers::mesh_length(h.vertices, h.records);
     finish(&work[..n], out)
 }
 

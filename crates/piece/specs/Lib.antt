@@ -1,7 +1,5 @@
--- Document 01, "The marked piece": slots, edge codes, faces, marks, types, what cutting gives, and what holds of every cut.
-pub mod Edges
+-- Document 01, "The marked piece": marks, types, valid shapes, corners and ends.
 pub mod Shape
-pub mod Cut
+pub mod Ends
+pub mod Same
 pub mod Every
-pub mod Theorems
-pub mod Rows

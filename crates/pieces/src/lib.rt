@@ -5,8 +5,8 @@ ghost use mathlib.Core.Path.{_≡_};
 ghost use lib.Dec.{eqb, leb};
 ghost use mathlib.Core.Bool.{not};
 ghost use Rattle.laws.specs.Below.{anyBelow};
-ghost use Rattle.piece.specs.Cut.{cornerAt};
-ghost use Rattle.piece.specs.Edges.{lowSlot, highSlot};
+ghost use Rattle.piece.specs.Ends.{cornerAt};
+ghost use Rattle.edges.specs.Edges.{lowSlot, highSlot};
 ghost use Rattle.piece.specs.Shape.{shapeOf, mark, markFits};
 ghost use Rattle.refusals.specs.Tables.{tables};
 ghost use Rattle.refusals.specs.Refusals.{
@@ -23,7 +23,7 @@ ghost use Rattle.refusals.specs.Refusals.{
 fn equal_at(p: Piece, e: u8) -> bool
     ensures { λ r. ⌜ r ≡ eqb (cornerAt p (lowSlot e)) (cornerAt p (highSlot e)) ⌝ }
 {
-    piece::corner(p, piece::low_slot(e)) == piece::corner(p, piece::high_slot(e))
+    piece::corner(p, edges::low_slot(e)) == piece::corner(p, edges::high_slot(e))
 }
 
 fn equal_corners(p: Piece) -> bool

@@ -2,3 +2,4 @@
 pub mod Tables
 pub mod Refusals
 pub mod Check
+pub mod Bounded

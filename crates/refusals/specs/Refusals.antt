@@ -7,10 +7,12 @@ use lib.Dec.{eqb, ltb, leb}
 use Rattle.laws.specs.Below.{anyBelow, allBelow, countBelow}
 use Rattle.piece.specs.declared.Piece.{Piece}
 use Rattle.piece.specs.declared.Ends.{Ends}
-use Rattle.piece.specs.declared.Children.{Children}
-use Rattle.piece.specs.Edges.{lowSlot, highSlot}
+use Rattle.cutting.specs.declared.Children.{Children}
+use Rattle.edges.specs.Edges.{lowSlot, highSlot}
 use Rattle.piece.specs.Shape.{shapeOf, mark, markFits}
-use Rattle.piece.specs.Cut.{cornerAt, endsOf, cutOf, samePiece}
+use Rattle.piece.specs.Ends.{cornerAt, endsOf}
+use Rattle.piece.specs.Same.{samePiece}
+use Rattle.cutting.specs.Cut.{cutOf}
 use Rattle.grid.specs.Places.{pointOf, onGrid, samePlace, isHalfway}
 use Rattle.stored.specs.declared.Header.{Header}
 use Rattle.stored.specs.declared.Vertex.{Vertex}

@@ -6,9 +6,9 @@ use lib.Dec.{eqb, ltb, leb}
 use Rattle.laws.specs.Below.{anyBelow, firstBelow}
 use Rattle.piece.specs.declared.Piece.{Piece}
 use Rattle.piece.specs.declared.Ends.{Ends}
-use Rattle.piece.specs.Cut.{cornerAt, endsOf}
+use Rattle.piece.specs.Ends.{cornerAt, endsOf}
 use Rattle.grid.specs.Places.{Point, pointOf}
-use Rattle.grid.specs.Volume.{sixfoldOf}
+use Rattle.volume.specs.Volume.{sixfoldOf}
 use Rattle.stored.specs.declared.Header.{Header}
 use Rattle.stored.specs.declared.Vertex.{Vertex}
 use Rattle.stored.specs.declared.Record.{Record}

@@ -6,8 +6,10 @@ use piece::Ends;
 use piece::Piece;
 use stored::Header;
 ghost use mathlib.Core.Path.{_≡_};
-ghost use Rattle.piece.specs.Cut.{cornerAt};
+ghost use lib.Dec.{eqb};
+ghost use Rattle.piece.specs.Ends.{cornerAt};
 ghost use Rattle.stored.specs.Layout.{vertexIn};
+ghost use Rattle.refusals.specs.Refusals.{hasCorner};
 ghost use Rattle.refusals.specs.Tables.{tables, isLeaf, hasParents, vertexWith, refinementEnds, sixfoldAt};
 
 // What check returns.
@@ -81,5 +83,25 @@ pub fn sixfold_of(h: Header, vertices: &[u8], records: &[u8], p: Piece) -> u64
     let b = place_of(vertices, p, 1);
     let c = place_of(vertices, p, 2);
     let d = place_of(vertices, p, 3);
-    grid::sixfold(a, b, c, d)
+    volume::sixfold(a, b, c, d)
+}
+
+fn corner_is(p: Piece, v: u32, k: u8) -> bool
+    ensures { λ r. ⌜ r ≡ eqb (cornerAt p k) v ⌝ }
+{
+    piece::corner(p, k) == v
+}
+
+// Whether vertex v is a corner of a piece.
+pub fn has_corner(p: Piece, v: u32) -> bool
+    ensures { λ r. ⌜ r ≡ hasCorner p v ⌝ }
+{
+    let mut k: u8 = 0;
+    while k < 4 {
+        if corner_is(p, v, k) {
+            return true;
+        }
+        k += 1;
+    }
+    false
 }

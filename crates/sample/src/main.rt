@@ -46,7 +46,7 @@ fn main() {
         &k_coordinates,
         &k_corners,
         &mut out,
-        stored::mesh_length(4, 1),
+        headers::mesh_length(4, 1),
     );
     let cube_coordinates: [i16; 24] = [
         0,
@@ -106,6 +106,6 @@ fn main() {
         &cube_coordinates,
         &cube_corners,
         &mut out,
-        stored::mesh_length(8, 6),
+        headers::mesh_length(8, 6),
     );
 }

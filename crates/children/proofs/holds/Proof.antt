@@ -3,7 +3,7 @@
 use borrow.Author.Needs.{needs}
 use mathlib.Core.Path.{_∙_, ap}
 use Rattle.stored.specs.declared.Record.{Record}
-use Rattle.piece.specs.Cut.{samePiece}
+use Rattle.piece.specs.Same.{samePiece}
 use Rattle.children.proofs.holds.Statement.{statement}
 use Rattle.children.proofs.holds.Tie as tie
 

@@ -7,7 +7,7 @@ use mathlib.Core.Bool.{true}
 use native.Mathlib.Omega.{arith}
 use borrow.Author.Tests.{not-true, not-false}
 use Rattle.laws.specs.Below.{allBelow, all-none, all-next, all-fails, all-end}
-use Rattle.piece.specs.Cut.{cornerAt}
+use Rattle.piece.specs.Ends.{cornerAt}
 use Rattle.refusals.specs.Refusals.{hasCorner, cornersWithin}
 use Rattle.faces.proofs.corners_within.Statement.{statement}
 use Rattle.faces.proofs.corners_within.Tie as tie

@@ -9,7 +9,7 @@ returns : tie.Need-returns
 returns c = rw (eq-eqb _ _ (c .if1 .taken))
 
 returns-2 : tie.Need-returns-2
-returns-2 c = rw (ne-eqb _ _ (c .before .if1 .left)) (c .corner-is .ensures)
+returns-2 c = rw (ne-eqb _ _ (c .before .if1 .left), ← c .corner .ensures)
 
 pub face-corner-is-spec : {M : Type 1} → statement M
 face-corner-is-spec = tie.close (tie.spec returns (λ c κs. search needs) returns-2)

@@ -7,7 +7,7 @@ use mathlib.Core.Bool.{false, not, _&&_}
 use native.Mathlib.Omega.{arith}
 use lib.Dec.{eqb}
 use Rattle.laws.specs.Below.{anyBelow, any-none, any-next, any-is, any-end}
-use Rattle.piece.specs.Cut.{cornerAt}
+use Rattle.piece.specs.Ends.{cornerAt}
 use Rattle.refusals.specs.Refusals.{faceHas}
 use Rattle.faces.proofs.face_has.Statement.{statement}
 use Rattle.faces.proofs.face_has.Tie as tie

@@ -8,7 +8,7 @@ use native.Mathlib.Omega.{arith}
 use lib.Dec.{eqb}
 use borrow.Author.Tests.{not-true, not-false}
 use Rattle.laws.specs.Below.{allBelow, all-none, all-next, all-fails, all-end}
-use Rattle.piece.specs.Cut.{cornerAt}
+use Rattle.piece.specs.Ends.{cornerAt}
 use Rattle.refusals.specs.Refusals.{faceHas, faceWithin}
 use Rattle.faces.proofs.face_within.Statement.{statement}
 use Rattle.faces.proofs.face_within.Tie as tie

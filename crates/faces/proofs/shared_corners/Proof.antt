@@ -5,7 +5,7 @@ use Prim.Native.Nat.{ℕ, _≤_, _-_, _+_}
 use mathlib.Core.Path.{_≡_, sym, _∙_, ap, subst}
 use native.Mathlib.Omega.{arith}
 use Rattle.laws.specs.Below.{countBelow, count-none}
-use Rattle.piece.specs.Cut.{cornerAt}
+use Rattle.piece.specs.Ends.{cornerAt}
 use Rattle.laws.specs.Below.{count-suc, count-at-most, bit-small}
 use native.Mathlib.Nat.{le-antisymm}
 use native.Mathlib.Numerals.{add-one}

@@ -4,7 +4,7 @@ use borrow.Author.Needs.{needs}
 use mathlib.Core.Path.{sym, _∙_}
 use denote.Ref.{now}
 use Rattle.refusals.specs.Tables.{tables}
-use Rattle.judge.specs.Hanging.{found-at, found-nothing}
+use Rattle.judge.specs.Order.{found-at, found-nothing}
 use Rattle.judge.proofs.closed.Statement.{statement}
 use Rattle.judge.proofs.closed.Tie as tie
 

@@ -9,7 +9,7 @@ use denote.Ref.{now}
 use mathlib.Core.List.{List}
 use lib.ListN.{replicate, length-replicate}
 use Rattle.stored.specs.Layout.{headerOf}
-use Rattle.judge.specs.Bounds.{Bounded}
+use Rattle.refusals.specs.Bounded.{Bounded}
 use Rattle.mark.specs.Storing.{plain-bounded, work-within, work-part, work-taken, laterNumber, laterBytes}
 use Rattle.mark.proofs.store.Statement.{statement}
 use Rattle.mark.proofs.store.Tie as tie

@@ -1,7 +1,7 @@
 -- `piece::ends_of`: the two corners that the calls return.
 -- Assumes nothing.
 use borrow.Author.Needs.{needs}
-use Rattle.piece.specs.Cut.{endsOf}
+use Rattle.piece.specs.Ends.{endsOf}
 use Rattle.piece.proofs.ends_of.Statement.{statement}
 use Rattle.piece.proofs.ends_of.Tie as tie
 

@@ -2,7 +2,7 @@
 -- Assumes nothing.
 use borrow.Author.Needs.{needs}
 use borrow.Author.Tests.{lt-ltb, le-ltb}
-use Rattle.piece.specs.Cut.{higherEnd}
+use Rattle.piece.specs.Ends.{higherEnd}
 use Rattle.piece.proofs.higher_end.Statement.{statement}
 use Rattle.piece.proofs.higher_end.Tie as tie
 

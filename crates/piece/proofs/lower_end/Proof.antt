@@ -2,7 +2,7 @@
 -- Assumes nothing.
 use borrow.Author.Needs.{needs}
 use borrow.Author.Tests.{lt-ltb, le-ltb}
-use Rattle.piece.specs.Cut.{lowerEnd}
+use Rattle.piece.specs.Ends.{lowerEnd}
 use Rattle.piece.proofs.lower_end.Statement.{statement}
 use Rattle.piece.proofs.lower_end.Tie as tie
 

@@ -2,7 +2,7 @@
 -- Assumes nothing.
 use borrow.Author.Needs.{needs}
 use borrow.Author.Tests.{eq-eqb, ne-eqb}
-use Rattle.piece.specs.Cut.{samePiece}
+use Rattle.piece.specs.Same.{samePiece}
 use Rattle.piece.proofs.same_piece.Statement.{statement}
 use Rattle.piece.proofs.same_piece.Tie as tie
 

@@ -2,7 +2,7 @@
 -- Assumes nothing.
 use borrow.Author.Needs.{needs}
 use borrow.Author.Tests.{eq-eqb, ne-eqb}
-use Rattle.piece.specs.Cut.{sameSlot}
+use Rattle.piece.specs.Same.{sameSlot}
 use Rattle.piece.proofs.same_slot.Statement.{statement}
 use Rattle.piece.proofs.same_slot.Tie as tie
 

@@ -7,7 +7,7 @@ use mathlib.Core.Bool.{true}
 use native.Mathlib.Omega.{arith}
 use borrow.Author.Tests.{not-true, not-false}
 use Rattle.laws.specs.Below.{allBelow, all-none, all-next, all-fails, all-end}
-use Rattle.piece.specs.Cut.{sameSlot, sameSlots}
+use Rattle.piece.specs.Same.{sameSlot, sameSlots}
 use Rattle.piece.proofs.same_slots.Statement.{statement}
 use Rattle.piece.proofs.same_slots.Tie as tie
 

@@ -7,7 +7,7 @@ use mathlib.Core.Bool.{false}
 use native.Mathlib.Omega.{arith}
 use lib.Dec.{leb}
 use Rattle.laws.specs.Below.{anyBelow, any-none, any-next, any-is, any-end}
-use Rattle.piece.specs.Cut.{cornerAt}
+use Rattle.piece.specs.Ends.{cornerAt}
 use Rattle.refusals.specs.Refusals.{cornerNotInBase}
 use Rattle.pieces.proofs.corner_not_in_base.Statement.{statement}
 use Rattle.pieces.proofs.corner_not_in_base.Tie as tie

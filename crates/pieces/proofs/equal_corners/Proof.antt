@@ -7,8 +7,8 @@ use mathlib.Core.Bool.{false}
 use native.Mathlib.Omega.{arith}
 use lib.Dec.{eqb}
 use Rattle.laws.specs.Below.{anyBelow, any-none, any-next, any-is, any-end}
-use Rattle.piece.specs.Edges.{lowSlot, highSlot}
-use Rattle.piece.specs.Cut.{cornerAt}
+use Rattle.edges.specs.Edges.{lowSlot, highSlot}
+use Rattle.piece.specs.Ends.{cornerAt}
 use Rattle.refusals.specs.Refusals.{equalCorners}
 use Rattle.pieces.proofs.equal_corners.Statement.{statement}
 use Rattle.pieces.proofs.equal_corners.Tie as tie

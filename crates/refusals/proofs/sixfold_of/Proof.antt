@@ -1,7 +1,7 @@
 -- `refusals::sixfold_of`: the four corners' places.
 -- Assumes nothing.
 use borrow.Author.Needs.{needs}
-use Rattle.grid.specs.Volume.{sixfoldOf, differencesOf}
+use Rattle.volume.specs.Volume.{sixfoldOf, differencesOf}
 use Rattle.refusals.specs.Tables.{sixfoldAt}
 use Rattle.refusals.proofs.sixfold_of.Statement.{statement}
 use Rattle.refusals.proofs.sixfold_of.Tie as tie

@@ -1,0 +1,20 @@
+-- Rows of document 01's "A piece worked by hand", computed.
+use mathlib.Core.Path.{_≡_, refl}
+use mathlib.Core.Bool.{Bool, true, false}
+use mathlib.Core.List.{List, [], _∷_}
+use Prim.Native.Nat.{ℕ}
+use Rattle.laws.specs.Below.{foldBelow, firstBelow, allBelow}
+use Rattle.edges.specs.Edges.{lowSlot, highSlot, hasSlot, otherEnd, joins, edgeBetween, onFace, opposite, oppositeOn, shares, sharedSlot}
+use Rattle.piece.specs.Shape.{Shape, slotA, slotB, edgeCD, slotC, slotD, otherMarksAre, typeP, typeA, typeO, typeM, setP, unsetP, markFits, flagFits, validShape}
+use Rattle.piece.specs.Ends.{lowerEnd, higherEnd, endsOf}
+use Rattle.cutting.specs.Cut.{newMark, childFlag, childMark, childShape, childOf, cutOf}
+use Rattle.piece.specs.declared.Piece.{Piece}
+use Rattle.cutting.specs.declared.Children.{Children}
+
+abbrev K : Piece
+K = record { corners = 0 ∷ 1 ∷ 2 ∷ 3 ∷ []; edge = 2; marks = 4 ∷ 2 ∷ 2 ∷ 1 ∷ []; flag = 0; generation = 0 }
+
+-- K's two children: "Record 1: corners 0 1 2 4, edge 1, marks 3, 1, 0, 1. Record 2: 4 1 2 3, edge 4, marks 4, 5, 4, 3."
+K-cut : cutOf K 4 ≡ record { first = record { corners = 0 ∷ 1 ∷ 2 ∷ 4 ∷ []; edge = 1; marks = 3 ∷ 1 ∷ 0 ∷ 1 ∷ []; flag = 0; generation = 1 }; second = record { corners = 4 ∷ 1 ∷ 2 ∷ 3 ∷ []; edge = 4; marks = 4 ∷ 5 ∷ 4 ∷ 3 ∷ []; flag = 0; generation = 1 } }
+unfolding cutOf childOf childShape childMark newMark childFlag lowerEnd higherEnd setP unsetP typeP otherMarksAre slotA slotB slotC slotD edgeCD lowSlot highSlot hasSlot otherEnd joins edgeBetween onFace opposite oppositeOn shares sharedSlot firstBelow
+K-cut = refl

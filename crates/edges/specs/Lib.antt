@@ -1,0 +1,2 @@
+-- Document 01, "The marked piece": slots, edge codes and faces.
+pub mod Edges

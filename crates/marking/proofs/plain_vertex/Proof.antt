@@ -1,0 +1,13 @@
+-- `marking::plain_vertex` has no parents.
+-- Assumes nothing.
+use borrow.Author.Needs.{needs}
+use Rattle.marking.specs.Marking.{plainVertex}
+use Rattle.marking.proofs.plain_vertex.Statement.{statement}
+use Rattle.marking.proofs.plain_vertex.Tie as tie
+
+returns : tie.Need-returns
+unfolding plainVertex
+returns c = λ i. record { place = c .plain-place .ensures i; p = 65535; q = 65535 }
+
+pub plain-vertex-spec : {M : Type 1} → statement M
+plain-vertex-spec = tie.close (tie.spec (λ c κs. search needs) returns)

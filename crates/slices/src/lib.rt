@@ -1,0 +1,50 @@
+// A slice read at an offset, whatever its length: past the end a byte reads as 0.
+ghost use mathlib.Core.Path.{_≡_};
+ghost use Prim.Native.Nat.{_*_, _<_};
+ghost use lib.ListN.{getD, drop};
+ghost use Rattle.laws.specs.Numbers.{number};
+
+pub fn byte(s: &[u8], at: usize) -> u8
+    ensures { λ r. ⌜ r ≡ getD (now (s .entry)) at 0 ⌝ }
+{
+    if at < s.len() { s[at] } else { 0 }
+}
+
+pub fn after(s: &[u8], at: usize) -> &[u8]
+    ensures { λ r. ⌜ now r ≡ drop at (now (s .entry)) ⌝ }
+{
+    if at <= s.len() { &s[at..] } else { &s[..0] }
+}
+
+// The little-endian number of two bytes.
+pub fn two(s: &[u8], at: usize) -> u32
+    ensures { λ r. ⌜ r ≡ number 2 (drop at (now (s .entry))) ⌝ }
+    ensures { λ r. ⌜ r < 65536 ⌝ }
+{
+    let rest = after(s, at);
+    let low = byte(rest, 0);
+    let high = byte(rest, 1);
+    (low as u32) + 256 * (high as u32)
+}
+
+pub fn four(s: &[u8], at: usize) -> u32
+    ensures { λ r. ⌜ r ≡ number 4 (drop at (now (s .entry))) ⌝ }
+{
+    let rest = after(s, at);
+    let low = two(rest, 0);
+    let high = two(rest, 2);
+    low + 65536 * high
+}
+
+// Entry i of a table whose entries have one width, and what follows it.
+pub fn entry(table: &[u8], i: usize, width: usize) -> &[u8]
+    ensures { λ r. ⌜ now r ≡ drop (width * i) (now (table .entry)) ⌝ }
+{
+    if width == 0 {
+        return after(table, 0);
+    }
+    if i <= table.len() / width {
+        return after(table, width * i);
+    }
+    after(table, table.len())
+}
