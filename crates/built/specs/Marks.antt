@@ -14,8 +14,8 @@ use Rattle.piece.specs.declared.Piece.{Piece}
 use Rattle.edges.specs.Edges.{lowSlot, highSlot, hasSlot, onFace}
 use Rattle.piece.specs.Shape.{shapeOf, mark, markFits, flagFits}
 use Rattle.cutting.specs.Theorems.{Valid}
-use Rattle.grid.specs.Lengths.{ranksBefore}
-use Rattle.grid.specs.RankingTheorems.{irreflexive, transitive, total}
+use Rattle.lengths.specs.Lengths.{ranksBefore}
+use Rattle.lengths.specs.RankingTheorems.{irreflexive, transitive, total}
 use Rattle.refusals.specs.Refusals.{badMarks}
 use Rattle.accepted.specs.Tests.{Passes, reads, equal, not-below, not-fails, not-passes, and-passes, and-fails, or-fails, none-passes}
 use Rattle.accepted.specs.Bases.{valid-is}

@@ -15,7 +15,7 @@ use Rattle.edges.specs.Edges.{lowSlot, highSlot, hasSlot, joins, edgeBetween, o
 use Rattle.piece.specs.Shape.{shapeOf, slotA, slotB, slotC, slotD, edgeCD, otherMarksAre, typeA}
 use Rattle.piece.specs.Ends.{lowerEnd, higherEnd, endsOf}
 use Rattle.grid.specs.Places.{coordinate, coordinateOnGrid, onGrid, samePlace}
-use Rattle.grid.specs.Lengths.{squaredLength, ranksBefore}
+use Rattle.lengths.specs.Lengths.{squaredLength, ranksBefore}
 use Rattle.volume.specs.Volume.{minorOf, determinantOf, differenceOf, differencesOf, sixfoldOf}
 use Rattle.stored.specs.Layout.{meshBytes, headerBytes, markBytes, headerOf, verticesOf, vertexIn, vertexFrom, vertexBytes, recordsOf, recordIn, recordFrom, recordBytes}
 use Rattle.refusals.specs.Tables.{tablesOf, sixfoldAt}

@@ -13,7 +13,7 @@ use Rattle.piece.specs.Shape.{shapeOf, mark}
 use Rattle.piece.specs.Ends.{cornerAt, lowerEnd, higherEnd, endsOf}
 use Rattle.cutting.specs.Theorems.{SamePair, slots-small}
 use Rattle.grid.specs.Places.{pointOf}
-use Rattle.grid.specs.Lengths.{squaredLength}
+use Rattle.lengths.specs.Lengths.{squaredLength}
 use Rattle.refusals.specs.Refusals.{faceHas, faceWithin, sameFace, sameEnds, sameMark, twoMarksOn, twoMarks}
 use Rattle.accepted.specs.Tests.{Passes, equal, below, not-passes, fails-unless, not-fails, and-passes, and-fails, or-passes, or-fails, all-pass, any-passes}
 use Rattle.accepted.specs.Accepted.{OnFace, SameFace, markedEnds}

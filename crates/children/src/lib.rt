@@ -5,7 +5,7 @@ use stored::Header;
 use stored::Record;
 ghost use mathlib.Core.Path.{_≡_};
 ghost use Rattle.laws.specs.Below.{anyBelow, countBelow, bit};
-ghost use Rattle.piece.specs.Same.{samePiece};
+ghost use Rattle.piece.specs.Same.{sameSlot, sameSlots, samePiece};
 ghost use Rattle.stored.specs.Layout.{recordIn};
 ghost use Rattle.refusals.specs.Tables.{tables};
 ghost use Rattle.refusals.specs.Refusals.{
@@ -20,13 +20,51 @@ ghost use Rattle.refusals.specs.Refusals.{
   badCuts,
 };
 
+fn same_slot(p: Piece, q: Piece, k: u8) -> bool
+    ensures { λ r. ⌜ r ≡ sameSlot p q k ⌝ }
+{
+    if piece::corner(p, k) != piece::corner(q, k) {
+        return false;
+    }
+    piece::mark_of(p, k) == piece::mark_of(q, k)
+}
+
+fn same_slots(p: Piece, q: Piece) -> bool
+    ensures { λ r. ⌜ r ≡ sameSlots p q ⌝ }
+{
+    let mut k: u8 = 0;
+    while k < 4 {
+        if !same_slot(p, q, k) {
+            return false;
+        }
+        k += 1;
+    }
+    true
+}
+
+// Whether two pieces are the same: corners in their slots, marks, edge, flag and generation.
+fn same_piece(p: Piece, q: Piece) -> bool
+    ensures { λ r. ⌜ r ≡ samePiece p q ⌝ }
+{
+    if p.edge != q.edge {
+        return false;
+    }
+    if p.flag != q.flag {
+        return false;
+    }
+    if p.generation != q.generation {
+        return false;
+    }
+    same_slots(p, q)
+}
+
 // Whether record c holds this piece.
 fn holds(records: &[u8], c: usize, p: Piece) -> bool
     ensures { λ b. ⌜ b ≡ samePiece (recordIn (now (records .entry)) c .piece) p ⌝ }
 {
-    let record = stored::record_in(records, c);
+    let record = entries::record_in(records, c);
     let there = record.piece;
-    piece::same_piece(there, p)
+    same_piece(there, p)
 }
 
 fn bad_children(h: Header, vertices: &[u8], records: &[u8], n: usize, r: Record) -> bool
@@ -34,7 +72,7 @@ fn bad_children(h: Header, vertices: &[u8], records: &[u8], n: usize, r: Record)
 {
     let p = r.piece;
     let first = r.first_child as usize;
-    let w = refusals::vertex_with(h, vertices, records, piece::ends_of(p, p.edge));
+    let w = parents::vertex_with(h, vertices, records, piece::ends_of(p, p.edge));
     if h.vertices as usize <= w {
         return true;
     }
@@ -59,7 +97,7 @@ fn is_child_of(h: Header, vertices: &[u8], records: &[u8], c: usize, n: usize) -
     if refusals::is_leaf(h, vertices, records, n) {
         return false;
     }
-    let first = stored::first_child_in(records, n) as usize;
+    let first = entries::first_child_in(records, n) as usize;
     if first == c {
         return true;
     }
@@ -97,7 +135,7 @@ fn not_child_of_one(h: Header, vertices: &[u8], records: &[u8], c: usize) -> boo
 fn too_deep(h: Header, vertices: &[u8], records: &[u8], n: usize) -> bool
     ensures { λ b. ⌜ b ≡ tooDeep (tables h (now (vertices .entry)) (now (records .entry))) n ⌝ }
 {
-    let record = stored::record_in(records, n);
+    let record = entries::record_in(records, n);
     let p = record.piece;
     15 < p.generation
 }
@@ -108,7 +146,7 @@ fn bad_cut(h: Header, vertices: &[u8], records: &[u8], n: usize) -> bool
     if refusals::is_leaf(h, vertices, records, n) {
         return false;
     }
-    bad_children(h, vertices, records, n, stored::record_in(records, n))
+    bad_children(h, vertices, records, n, entries::record_in(records, n))
 }
 
 fn bad_record(h: Header, vertices: &[u8], records: &[u8], n: usize) -> bool
@@ -144,7 +182,7 @@ fn is_midpoint_of(h: Header, vertices: &[u8], records: &[u8], v: usize, n: usize
         return false;
     }
     let ends = refusals::refinement_ends(h, vertices, records, n);
-    refusals::has_parents(h, vertices, records, ends, v)
+    parents::has_parents(h, vertices, records, ends, v)
 }
 
 fn is_midpoint(h: Header, vertices: &[u8], records: &[u8], v: usize) -> bool

@@ -179,7 +179,7 @@ fn has_face(q: Piece, i: u8, p: Piece) -> bool
 fn record_has_face(records: &[u8], q: Piece, i: u8, s: usize) -> bool
     ensures { λ r. ⌜ r ≡ hasFace q i (recordIn (now (records .entry)) s .piece) ⌝ }
 {
-    let record = stored::record_in(records, s);
+    let record = entries::record_in(records, s);
     let p = record.piece;
     has_face(q, i, p)
 }
@@ -256,7 +256,7 @@ fn bad_together(h: Header, vertices: &[u8], records: &[u8], q: Piece, r: usize, 
 fn bad_at(h: Header, vertices: &[u8], records: &[u8], q: Piece, r: usize) -> bool
     ensures { λ b. ⌜ b ≡ badTogether (tables h (now (vertices .entry)) (now (records .entry))) q r (recordIn (now (records .entry)) r .piece) ⌝ }
 {
-    let record = stored::record_in(records, r);
+    let record = entries::record_in(records, r);
     let p = record.piece;
     bad_together(h, vertices, records, q, r, p)
 }
@@ -277,7 +277,7 @@ fn bad_with(h: Header, vertices: &[u8], records: &[u8], q: Piece, n: usize) -> b
 fn bad_faces(h: Header, vertices: &[u8], records: &[u8], n: usize) -> bool
     ensures { λ b. ⌜ b ≡ badFaces (tables h (now (vertices .entry)) (now (records .entry))) n ⌝ }
 {
-    let record = stored::record_in(records, n);
+    let record = entries::record_in(records, n);
     let q = record.piece;
     bad_with(h, vertices, records, q, n)
 }

@@ -1,23 +1,14 @@
-// Vertices and the grid: places, halfway, squared lengths and their ranking.
+// Vertices and the grid: places, and standing halfway.
 ghost use mathlib.Core.Path.{_≡_};
 ghost use Prim.Native.Nat.{_+_, _/_};
 ghost use lib.Dec.{eqb};
 ghost use Rattle.grid.specs.Places.{coordinate, pointOf, coordinateOnGrid, onGrid, samePlace, isHalfway, halfwayOf};
-ghost use Rattle.grid.specs.Lengths.{squaredLength, ranksBefore};
-ghost use Rattle.grid.specs.LengthLaws.{SquaredDifference};
 
 // A vertex's place: each coordinate and 32,768 more.
 pub struct Place {
     pub x: u16,
     pub y: u16,
     pub z: u16,
-}
-
-// An edge as it is ranked: its squared length, and its ends' vertex numbers.
-pub struct Ranked {
-    pub length: u64,
-    pub lower: u32,
-    pub higher: u32,
 }
 
 // 32,768 is a multiple of 32, so a coordinate is on the grid exactly if its place is a multiple of 32 from 32 to 65,504.
@@ -95,42 +86,4 @@ pub fn is_halfway(w: Place, a: Place, b: Place) -> bool
         return false;
     }
     is_half_sum(w.z, a.z, b.z)
-}
-
-// Whether edge a ranks before edge b.
-pub fn ranks_before(a: Ranked, b: Ranked) -> bool
-    ensures { λ r. ⌜ r ≡ ranksBefore a b ⌝ }
-{
-    if b.length < a.length {
-        return true;
-    }
-    if a.length != b.length {
-        return false;
-    }
-    if a.lower < b.lower {
-        return true;
-    }
-    if a.lower != b.lower {
-        return false;
-    }
-    a.higher < b.higher
-}
-
-// The greater place less the smaller: the difference of places is that of coordinates.
-fn squared_difference(p: u16, q: u16) -> u64
-    ensures { λ r. ⌜ SquaredDifference p q r ⌝ }
-{
-    if p < q {
-        let d = (q - p) as u64;
-        return d * d;
-    }
-    let d = (p - q) as u64;
-    d * d
-}
-
-// The squared length of the edge between a and b.
-pub fn squared_length(a: Place, b: Place) -> u64
-    ensures { λ r. ⌜ r ≡ squaredLength (pointOf a) (pointOf b) ⌝ }
-{
-    squared_difference(a.x, b.x) + squared_difference(a.y, b.y) + squared_difference(a.z, b.z)
 }

@@ -16,7 +16,7 @@ pub enum Found {
 fn ends_at(records: &[u8], n: usize, e: u8) -> Ends
     ensures { λ r. ⌜ r ≡ endsOf (recordIn (now (records .entry)) n .piece) e ⌝ }
 {
-    let record = stored::record_in(records, n);
+    let record = entries::record_in(records, n);
     let p = record.piece;
     piece::ends_of(p, e)
 }
@@ -39,7 +39,7 @@ pub fn first_hanging(h: Header, vertices: &[u8], records: &[u8]) -> Found
             let ends = ends_at(records, n, e);
             let mut v: usize = 0;
             while v < all_vertices {
-                if refusals::has_parents(h, vertices, records, ends, v) {
+                if parents::has_parents(h, vertices, records, ends, v) {
                     found = Found::At(n, e);
                     break 'search;
                 }

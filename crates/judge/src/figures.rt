@@ -29,7 +29,7 @@ fn leaf_generation(h: Header, vertices: &[u8], records: &[u8], n: usize) -> u64
     ensures { λ r. ⌜ r ≡ leafGeneration (tables h (now (vertices .entry)) (now (records .entry))) n ⌝ }
 {
     if refusals::is_leaf(h, vertices, records, n) {
-        let record = stored::record_in(records, n);
+        let record = entries::record_in(records, n);
         let p = record.piece;
         return p.generation as u64;
     }
@@ -59,7 +59,7 @@ fn leaf_sixfold(h: Header, vertices: &[u8], records: &[u8], n: usize) -> u64
     ensures { λ r. ⌜ r ≡ leafSixfold (tables h (now (vertices .entry)) (now (records .entry))) n ⌝ }
 {
     if refusals::is_leaf(h, vertices, records, n) {
-        let record = stored::record_in(records, n);
+        let record = entries::record_in(records, n);
         let p = record.piece;
         return refusals::sixfold_of(h, vertices, records, p);
     }

@@ -140,7 +140,7 @@ fn finish(mesh: &[u8], out: &mut [u8]) -> u32
     if out.len() < mesh.len() {
         return 20;
     }
-    written::put_bytes(out, mesh);
+    copying::put(out, 0, mesh);
     0
 }
 

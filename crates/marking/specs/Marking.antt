@@ -9,9 +9,9 @@ use Rattle.piece.specs.declared.Piece.{Piece}
 use Rattle.edges.specs.Edges.{onFace}
 use Rattle.piece.specs.Ends.{endsOf}
 use Rattle.grid.specs.declared.Place.{Place}
-use Rattle.grid.specs.declared.Ranked.{Ranked}
+use Rattle.lengths.specs.declared.Ranked.{Ranked}
 use Rattle.grid.specs.Places.{pointOf}
-use Rattle.grid.specs.Lengths.{squaredLength, ranksBefore}
+use Rattle.lengths.specs.Lengths.{squaredLength, ranksBefore}
 use Rattle.stored.specs.declared.Vertex.{Vertex}
 use Rattle.stored.specs.declared.Record.{Record}
 use Rattle.stored.specs.Layout.{none}

@@ -8,7 +8,7 @@ use Rattle.piece.specs.declared.Piece.{Piece}
 use Rattle.edges.specs.Edges.{lowSlot, highSlot, hasSlot, onFace}
 use Rattle.piece.specs.Ends.{lowerEnd, higherEnd, endsOf}
 use Rattle.grid.specs.Places.{coordinate}
-use Rattle.grid.specs.Lengths.{squaredLength, ranksBefore}
+use Rattle.lengths.specs.Lengths.{squaredLength, ranksBefore}
 use Rattle.marking.specs.Marking.{plainPlace, plainPiece, rankOf, outranked, firstRanked, markedPiece}
 
 -- "K: (0,0,0), (64,0,0), (64,64,0), (64,64,64), one piece 0 1 2 3"

@@ -1,6 +1,6 @@
 // How a plain piece is marked: its edges are ranked, and the first-ranked of the piece and of each face are marked.
 use grid::Place;
-use grid::Ranked;
+use lengths::Ranked;
 use piece::Piece;
 use stored::Record;
 use stored::Vertex;
@@ -8,7 +8,7 @@ ghost use mathlib.Core.Path.{_≡_};
 ghost use mathlib.Core.Bool.{not, _&&_};
 ghost use lib.ListN.{getD};
 ghost use lib.IntN.{pos};
-ghost use Rattle.grid.specs.Lengths.{ranksBefore};
+ghost use Rattle.lengths.specs.Lengths.{ranksBefore};
 ghost use Rattle.marking.specs.Marking.{placeFor, plainPlace, plainVertex, plainPiece, rankOf, outranked, firstRanked, markedPiece, plainRecord};
 ghost use Rattle.marking.specs.Among.{amongOf};
 
@@ -88,7 +88,7 @@ fn rank(coordinates: &[i16], p: Piece, e: u8) -> Ranked
     let a = plain_place(coordinates, ends.lower);
     let b = plain_place(coordinates, ends.higher);
     Ranked {
-        length: grid::squared_length(a, b),
+        length: lengths::squared_length(a, b),
         lower: ends.lower,
         higher: ends.higher,
     }
@@ -110,7 +110,7 @@ fn outranks(coordinates: &[i16], p: Piece, i: u8, e: u8, f: u8) -> bool
     if !among(i, f) {
         return false;
     }
-    grid::ranks_before(rank(coordinates, p, f), rank(coordinates, p, e))
+    lengths::ranks_before(rank(coordinates, p, f), rank(coordinates, p, e))
 }
 
 fn is_outranked(coordinates: &[i16], p: Piece, i: u8, e: u8) -> bool

@@ -2,7 +2,6 @@
 ghost use mathlib.Core.Path.{_≡_};
 ghost use Rattle.piece.specs.Shape.{shapeOf, mark, markFits};
 ghost use Rattle.piece.specs.Ends.{cornerAt, lowerEnd, higherEnd, endsOf};
-ghost use Rattle.piece.specs.Same.{sameSlot, sameSlots, samePiece};
 
 pub struct Piece {
     // Vertex numbers in slots 0 to 3.
@@ -80,42 +79,4 @@ pub fn ends_of(p: Piece, e: u8) -> Ends
         lower: corner(p, lower_end(p, e)),
         higher: corner(p, higher_end(p, e)),
     }
-}
-
-fn same_slot(p: Piece, q: Piece, k: u8) -> bool
-    ensures { λ r. ⌜ r ≡ sameSlot p q k ⌝ }
-{
-    if corner(p, k) != corner(q, k) {
-        return false;
-    }
-    mark_of(p, k) == mark_of(q, k)
-}
-
-fn same_slots(p: Piece, q: Piece) -> bool
-    ensures { λ r. ⌜ r ≡ sameSlots p q ⌝ }
-{
-    let mut k: u8 = 0;
-    while k < 4 {
-        if !same_slot(p, q, k) {
-            return false;
-        }
-        k += 1;
-    }
-    true
-}
-
-// Whether two pieces are the same: corners in their slots, marks, edge, flag and generation.
-pub fn same_piece(p: Piece, q: Piece) -> bool
-    ensures { λ r. ⌜ r ≡ samePiece p q ⌝ }
-{
-    if p.edge != q.edge {
-        return false;
-    }
-    if p.flag != q.flag {
-        return false;
-    }
-    if p.generation != q.generation {
-        return false;
-    }
-    same_slots(p, q)
 }

@@ -79,7 +79,7 @@ fn bad_piece(h: Header, vertices: &[u8], records: &[u8], p: Piece) -> bool
 fn bad_base_record(h: Header, vertices: &[u8], records: &[u8], n: usize) -> bool
     ensures { λ r. ⌜ r ≡ badBaseRecord (tables h (now (vertices .entry)) (now (records .entry))) n ⌝ }
 {
-    let record = stored::record_in(records, n);
+    let record = entries::record_in(records, n);
     let p = record.piece;
     bad_piece(h, vertices, records, p)
 }
@@ -130,7 +130,7 @@ fn bad_marks(p: Piece) -> bool
 fn badly_marked(h: Header, vertices: &[u8], records: &[u8], n: usize) -> bool
     ensures { λ r. ⌜ r ≡ badlyMarked (tables h (now (vertices .entry)) (now (records .entry))) n ⌝ }
 {
-    let record = stored::record_in(records, n);
+    let record = entries::record_in(records, n);
     let p = record.piece;
     bad_marks(p)
 }

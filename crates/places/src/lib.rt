@@ -26,7 +26,7 @@ fn bad_base_vertex(v: Vertex) -> bool
 fn stands_at(vertices: &[u8], u: usize, place: Place) -> bool
     ensures { λ r. ⌜ r ≡ samePlace (vertexIn (now (vertices .entry)) u .place) place ⌝ }
 {
-    let other = stored::vertex_in(vertices, u);
+    let other = entries::vertex_in(vertices, u);
     let there = other.place;
     grid::same_place(there, place)
 }
@@ -48,7 +48,7 @@ fn place_taken(vertices: &[u8], place: Place, v: usize) -> bool
 fn place_twice(h: Header, vertices: &[u8], records: &[u8], v: usize) -> bool
     ensures { λ r. ⌜ r ≡ placeTwice (tables h (now (vertices .entry)) (now (records .entry))) v ⌝ }
 {
-    let vertex = stored::vertex_in(vertices, v);
+    let vertex = entries::vertex_in(vertices, v);
     let place = vertex.place;
     place_taken(vertices, place, v)
 }
@@ -56,7 +56,7 @@ fn place_twice(h: Header, vertices: &[u8], records: &[u8], v: usize) -> bool
 fn bad_made_vertex(h: Header, vertices: &[u8], records: &[u8], v: usize) -> bool
     ensures { λ r. ⌜ r ≡ badMadeVertex (tables h (now (vertices .entry)) (now (records .entry))) v ⌝ }
 {
-    let vertex = stored::vertex_in(vertices, v);
+    let vertex = entries::vertex_in(vertices, v);
     let p = vertex.p as usize;
     let q = vertex.q as usize;
     if q <= p {
@@ -66,9 +66,9 @@ fn bad_made_vertex(h: Header, vertices: &[u8], records: &[u8], v: usize) -> bool
         return true;
     }
     let place = vertex.place;
-    let one = stored::vertex_in(vertices, p);
+    let one = entries::vertex_in(vertices, p);
     let one_place = one.place;
-    let other = stored::vertex_in(vertices, q);
+    let other = entries::vertex_in(vertices, q);
     let other_place = other.place;
     !grid::is_halfway(place, one_place, other_place)
 }
@@ -79,7 +79,7 @@ fn pair_taken(h: Header, vertices: &[u8], records: &[u8], ends: Ends, v: usize) 
 {
     let mut u: usize = 0;
     while u < v {
-        if refusals::has_parents(h, vertices, records, ends, u) {
+        if parents::has_parents(h, vertices, records, ends, u) {
             return true;
         }
         u += 1;
@@ -90,7 +90,7 @@ fn pair_taken(h: Header, vertices: &[u8], records: &[u8], ends: Ends, v: usize) 
 fn pair_twice(h: Header, vertices: &[u8], records: &[u8], v: usize) -> bool
     ensures { λ r. ⌜ r ≡ pairTwice (tables h (now (vertices .entry)) (now (records .entry))) v ⌝ }
 {
-    let vertex = stored::vertex_in(vertices, v);
+    let vertex = entries::vertex_in(vertices, v);
     let ends = Ends {
         lower: vertex.p,
         higher: vertex.q,
@@ -102,7 +102,7 @@ fn bad_vertex(h: Header, vertices: &[u8], records: &[u8], v: usize) -> bool
     ensures { λ r. ⌜ r ≡ badVertex (tables h (now (vertices .entry)) (now (records .entry))) v ⌝ }
 {
     if v < h.base_vertices as usize {
-        if bad_base_vertex(stored::vertex_in(vertices, v)) {
+        if bad_base_vertex(entries::vertex_in(vertices, v)) {
             return true;
         }
         return place_twice(h, vertices, records, v);

@@ -1,4 +1,4 @@
-// What several of check's rules ask of a decoded mesh: parents, the vertex with a given parent pair, volumes.
+// What several of check's rules ask of a decoded mesh: leaves, refinement edges, corners, volumes.
 //
 // A mesh is handed on as its header and the bytes of its two tables.
 use grid::Place;
@@ -10,7 +10,7 @@ ghost use lib.Dec.{eqb};
 ghost use Rattle.piece.specs.Ends.{cornerAt};
 ghost use Rattle.stored.specs.Layout.{vertexIn};
 ghost use Rattle.refusals.specs.Refusals.{hasCorner};
-ghost use Rattle.refusals.specs.Tables.{tables, isLeaf, hasParents, vertexWith, refinementEnds, sixfoldAt};
+ghost use Rattle.refusals.specs.Tables.{tables, isLeaf, refinementEnds, sixfoldAt};
 
 // What check returns.
 #[repr(C)]
@@ -23,47 +23,18 @@ pub struct Report {
     pub edge: u64,
 }
 
-// Whether vertex v is made and has these parents.
-pub fn has_parents(h: Header, vertices: &[u8], records: &[u8], ends: Ends, v: usize) -> bool
-    ensures { λ r. ⌜ r ≡ hasParents (tables h (now (vertices .entry)) (now (records .entry))) ends v ⌝ }
-{
-    if v < h.base_vertices as usize {
-        return false;
-    }
-    let parents = stored::parents_in(vertices, v);
-    if parents.p != ends.lower {
-        return false;
-    }
-    parents.q == ends.higher
-}
-
-// The vertex with these parents; the count of vertices where there is none.
-pub fn vertex_with(h: Header, vertices: &[u8], records: &[u8], ends: Ends) -> usize
-    ensures { λ r. ⌜ r ≡ vertexWith (tables h (now (vertices .entry)) (now (records .entry))) ends ⌝ }
-{
-    let count = h.vertices as usize;
-    let mut v: usize = 0;
-    while v < count {
-        if has_parents(h, vertices, records, ends, v) {
-            return v;
-        }
-        v += 1;
-    }
-    count
-}
-
 // Whether record n is not cut.
 pub fn is_leaf(h: Header, vertices: &[u8], records: &[u8], n: usize) -> bool
     ensures { λ r. ⌜ r ≡ isLeaf (tables h (now (vertices .entry)) (now (records .entry))) n ⌝ }
 {
-    stored::first_child_in(records, n) == 65535
+    entries::first_child_in(records, n) == 65535
 }
 
 // The ends of record n's refinement edge.
 pub fn refinement_ends(h: Header, vertices: &[u8], records: &[u8], n: usize) -> Ends
     ensures { λ r. ⌜ r ≡ refinementEnds (tables h (now (vertices .entry)) (now (records .entry))) n ⌝ }
 {
-    let record = stored::record_in(records, n);
+    let record = entries::record_in(records, n);
     let p = record.piece;
     piece::ends_of(p, p.edge)
 }
@@ -71,7 +42,7 @@ pub fn refinement_ends(h: Header, vertices: &[u8], records: &[u8], n: usize) -> 
 fn place_of(vertices: &[u8], p: Piece, k: u8) -> Place
     ensures { λ r. ⌜ r ≡ vertexIn (now (vertices .entry)) (cornerAt p k) .place ⌝ }
 {
-    let v = stored::vertex_in(vertices, piece::corner(p, k) as usize);
+    let v = entries::vertex_in(vertices, piece::corner(p, k) as usize);
     v.place
 }
 

@@ -37,7 +37,7 @@ fn count_record(uses: &mut [u64], records: &[u8], n: usize)
     requires { ⌜ ((k : ℕ) → getD (now uses) k 0 < 900000) ⌝ }
     ensures { λ _. ⌜ now (uses .exit) ≡ usedBy (now (uses .entry)) (recordIn (now (records .entry)) n .piece) ⌝ }
 {
-    let record = stored::record_in(records, n);
+    let record = entries::record_in(records, n);
     let p = record.piece;
     count_corners(uses, p);
 }
@@ -73,7 +73,7 @@ fn unused_by_table(h: Header, vertices: &[u8], records: &[u8]) -> bool
 fn record_has(records: &[u8], n: usize, v: u32) -> bool
     ensures { λ r. ⌜ r ≡ hasCorner (recordIn (now (records .entry)) n .piece) v ⌝ }
 {
-    let record = stored::record_in(records, n);
+    let record = entries::record_in(records, n);
     let p = record.piece;
     refusals::has_corner(p, v)
 }

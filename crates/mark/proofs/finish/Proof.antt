@@ -41,7 +41,7 @@ returns-3 c =
     let clear = c .before .before .before .before .before .before .before .before .before .pre .1 in
     let j = c .before .before .before .before .before .before .judged in
     let none = sym (j .ensures) ∙ c .before .before .before .before .before .if1 .left in
-    (sym (stored-number s room none (c .before .before .before .before .if2 .left)), c .before .before .put-bytes .ensures ∙ ap (λ (t : List ℕ). sets t 0 s) clear ∙ stored-bytes s room none (c .before .before .before .before .if2 .left))
+    (sym (stored-number s room none (c .before .before .before .before .if2 .left)), c .before .before .put .ensures ∙ ap (λ (t : List ℕ). sets t 0 s) clear ∙ stored-bytes s room none (c .before .before .before .before .if2 .left))
 
 pub finish-spec : {M : Type 1} → statement M
 finish-spec = tie.close (tie.spec judged-requires returns returns-2 (λ c κs. search needs) (λ c. search needs) returns-3)

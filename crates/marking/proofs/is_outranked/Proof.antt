@@ -7,7 +7,7 @@ use mathlib.Core.Bool.{false, _&&_}
 use native.Mathlib.Omega.{arith}
 use denote.Ref.{now}
 use Rattle.laws.specs.Below.{anyBelow, any-none, any-next, any-is, any-end}
-use Rattle.grid.specs.Lengths.{ranksBefore}
+use Rattle.lengths.specs.Lengths.{ranksBefore}
 use Rattle.marking.specs.Marking.{rankOf, outranked}
 use Rattle.marking.specs.Among.{amongOf}
 use Rattle.marking.proofs.is_outranked.Statement.{statement}
