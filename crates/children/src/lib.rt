@@ -5,7 +5,7 @@ use stored::Header;
 use stored::Record;
 ghost use mathlib.Core.Path.{_≡_};
 ghost use Rattle.laws.specs.Below.{anyBelow, countBelow, bit};
-ghost use Rattle.piece.specs.Same.{sameSlot, sameSlots, samePiece};
+ghost use Rattle.piece.specs.Same.{samePiece};
 ghost use Rattle.stored.specs.Layout.{recordIn};
 ghost use Rattle.refusals.specs.Tables.{tables};
 ghost use Rattle.refusals.specs.Refusals.{
@@ -20,51 +20,13 @@ ghost use Rattle.refusals.specs.Refusals.{
   badCuts,
 };
 
-fn same_slot(p: Piece, q: Piece, k: u8) -> bool
-    ensures { λ r. ⌜ r ≡ sameSlot p q k ⌝ }
-{
-    if piece::corner(p, k) != piece::corner(q, k) {
-        return false;
-    }
-    piece::mark_of(p, k) == piece::mark_of(q, k)
-}
-
-fn same_slots(p: Piece, q: Piece) -> bool
-    ensures { λ r. ⌜ r ≡ sameSlots p q ⌝ }
-{
-    let mut k: u8 = 0;
-    while k < 4 {
-        if !same_slot(p, q, k) {
-            return false;
-        }
-        k += 1;
-    }
-    true
-}
-
-// Whether two pieces are the same: corners in their slots, marks, edge, flag and generation.
-fn same_piece(p: Piece, q: Piece) -> bool
-    ensures { λ r. ⌜ r ≡ samePiece p q ⌝ }
-{
-    if p.edge != q.edge {
-        return false;
-    }
-    if p.flag != q.flag {
-        return false;
-    }
-    if p.generation != q.generation {
-        return false;
-    }
-    same_slots(p, q)
-}
-
 // Whether record c holds this piece.
 fn holds(records: &[u8], c: usize, p: Piece) -> bool
     ensures { λ b. ⌜ b ≡ samePiece (recordIn (now (records .entry)) c .piece) p ⌝ }
 {
     let record = entries::record_in(records, c);
     let there = record.piece;
-    same_piece(there, p)
+    same::same_piece(there, p)
 }
 
 fn bad_children(h: Header, vertices: &[u8], records: &[u8], n: usize, r: Record) -> bool

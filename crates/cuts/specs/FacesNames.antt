@@ -13,13 +13,13 @@ use Rattle.edges.specs.Edges.{lowSlot, highSlot, hasSlot, joins, edgeBetween, o
 use Rattle.piece.specs.Shape.{Shape, mark, markFits, flagFits, validShape}
 use Rattle.piece.specs.Every.{onlyIf, onlyIf-holds}
 use Rattle.cutting.specs.Theorems.{Valid, SamePair, slots-small}
-use Rattle.cuts.specs.Names.{Name, mid, mid-sym, mid-injective, level}
-use Rattle.cuts.specs.Pieces.{Piece, Side, renamed, midOf, pieceDown}
-use Rattle.cuts.specs.Lists.{same-tests}
-use Rattle.cuts.specs.Base.{Different, HasCorner, OnFace, SameFace, markedAt}
-use Rattle.cuts.specs.Three.{formal, formalDown, standsFor, Macro}
-use Rattle.cuts.specs.Macro.{has-low, has-high, down-stands, stands-corner, stands-past, stands-mid, old-level, new-level, mid-alike, formal-small}
-use Rattle.cuts.specs.FacesFormal.{some-slot, is-some-slot, onFormal, lies, lies-old, lies-new, under, code, code-same, Inherited, Across, Inside, formal-different, formal-one-path, formal-one-mark}
+use Rattle.names.specs.Names.{Name, mid, mid-sym, mid-injective, level}
+use Rattle.names.specs.Pieces.{Piece, Side, renamed, midOf, pieceDown}
+use Rattle.names.specs.Lists.{same-tests}
+use Rattle.names.specs.Base.{Different, HasCorner, OnFace, SameFace, markedAt}
+use Rattle.names.specs.Three.{formal, formalDown, standsFor, Macro}
+use Rattle.names.specs.Macro.{has-low, has-high, down-stands, stands-corner, stands-past, stands-mid, old-level, new-level, mid-alike, formal-small}
+use Rattle.formal.specs.FacesFormal.{some-slot, is-some-slot, onFormal, lies, lies-old, lies-new, under, code, code-same, Inherited, Across, Inside, formal-different, formal-one-path, formal-one-mark}
 
 -- x lies under the names S, seen from level k: it is one of them, or they have a midpoint of level k + 1 with x for a parent.
 abbrev pub Under : ℕ → (Name → Type 0) → Name → Type 0

@@ -7,12 +7,12 @@ use native.Mathlib.Nat.{mul-assoc, mul-add, add-mul, pow-suc, two-pow-succ}
 use lib.Dec.{eqb}
 use Rattle.edges.specs.Edges.{lowSlot, highSlot}
 use Rattle.cutting.specs.Theorems.{slots-small}
-use Rattle.cuts.specs.Lists.{either-has}
-use Rattle.cuts.specs.Names as Names
-use Rattle.cuts.specs.Names.{Name, mid, level, level-mid}
-use Rattle.cuts.specs.Pieces.{Piece, Side, endAt, childWith, child, Node, generation, pieceDown, pieceAt, makes}
-use Rattle.cuts.specs.Base.{Marked}
-use Rattle.cuts.specs.Macro.{node-level}
+use Rattle.names.specs.Lists.{either-has}
+use Rattle.names.specs.Names as Names
+use Rattle.names.specs.Names.{Name, mid, level, level-mid}
+use Rattle.names.specs.Pieces.{Piece, Side, endAt, childWith, child, Node, generation, pieceDown, pieceAt, makes}
+use Rattle.names.specs.Base.{Marked}
+use Rattle.names.specs.Macro.{node-level}
 
 -- ---- multiples of powers of two
 

@@ -1,12 +1,5 @@
--- Names of vertices, pieces over names, nodes and sets of cuts; then tables of numbered vertices and records, and the set that they represent. No bytes.
-pub mod Lists
-pub mod Names
-pub mod Pieces
+-- Sets of cuts; then tables of numbered vertices and records, and the set that they represent. No bytes.
 pub mod Sets
-pub mod Base
-pub mod Three
-pub mod Macro
-pub mod FacesFormal
 pub mod FacesNames
 pub mod Faces
 pub mod Depth

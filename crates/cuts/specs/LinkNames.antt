@@ -9,9 +9,9 @@ use Rattle.laws.specs.Below.{either}
 use Rattle.edges.specs.Edges.{lowSlot, highSlot}
 use Rattle.piece.specs.Shape.{mark}
 use Rattle.cutting.specs.Theorems.{SamePair}
-use Rattle.cuts.specs.Names as Names
-use Rattle.cuts.specs.Names.{Name, mid, mid-sym, mid-injective, mid-not-base}
-use Rattle.cuts.specs.Base.{Marked, HasCorner, OnFace}
+use Rattle.names.specs.Names as Names
+use Rattle.names.specs.Names.{Name, mid, mid-sym, mid-injective, mid-not-base}
+use Rattle.names.specs.Base.{Marked, HasCorner, OnFace}
 use Rattle.cuts.specs.Smaller.{by-smaller, one-step}
 use Rattle.cuts.specs.Tables.{Tables, Made, Lawful, HasVertex, FaceHas, nameStep, nameOf, pieceOf}
 

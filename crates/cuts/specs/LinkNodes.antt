@@ -12,10 +12,10 @@ use Rattle.laws.specs.Below.{either, and-left, and-right, or-true, or-second, a
 use Rattle.edges.specs.Edges.{lowSlot, highSlot}
 use Rattle.piece.specs.Shape.{slotA, slotB}
 use Rattle.cutting.specs.Theorems.{Valid}
-use Rattle.cuts.specs.Lists.{either-has}
-use Rattle.cuts.specs.Names.{Name, mid}
-use Rattle.cuts.specs.Pieces.{Piece, Side, low, high, endAt, renamed, child-renamed, childWith, child, Node, kid, makes, pieceAt, piece-root, piece-kid}
-use Rattle.cuts.specs.Macro.{Alike, child-alike, side-valid}
+use Rattle.names.specs.Lists.{either-has}
+use Rattle.names.specs.Names.{Name, mid}
+use Rattle.names.specs.Pieces.{Piece, Side, low, high, endAt, renamed, child-renamed, childWith, child, Node, kid, makes, pieceAt, piece-root, piece-kid}
+use Rattle.names.specs.Macro.{Alike, child-alike, side-valid}
 use Rattle.cuts.specs.LinkAlike.{alike-self, alike-then, kids-alike}
 use Rattle.cuts.specs.Smaller.{by-smaller, one-step}
 use Rattle.cuts.specs.Tables.{Tables, lowFirst, lowerEnd, higherEnd, Midpoint, ChildOf, ProperlyCut, IsChild, Lawful, nameOf, pieceOf, childOn, parentOf, sideOf, nodeStep, nodeOf}

@@ -9,13 +9,13 @@ use Rattle.laws.specs.Below.{countBelow}
 use Rattle.edges.specs.Edges.{lowSlot, highSlot}
 use Rattle.piece.specs.Shape.{Shape, slotA, slotB}
 use Rattle.cutting.specs.Theorems.{Valid, SamePair}
-use Rattle.cuts.specs.Names as Names
-use Rattle.cuts.specs.Names.{Name, mid, level}
-use Rattle.cuts.specs.Pieces.{Piece, Side, low, high, childWith, renamed, makes, child, Node, generation, kid, pieceDown, pieceAt}
+use Rattle.names.specs.Names as Names
+use Rattle.names.specs.Names.{Name, mid, level}
+use Rattle.names.specs.Pieces.{Piece, Side, low, high, childWith, renamed, makes, child, Node, generation, kid, pieceDown, pieceAt}
 use Rattle.cuts.specs.Sets.{Cuts, There, Leaf, Within, HangsAt, Hangs, NoneHangs}
-use Rattle.cuts.specs.Base.{SameCorners, Different, SameFace, markedAt, Marked}
-use Rattle.cuts.specs.Three.{formal, formalDown, standsFor, Macro}
-use Rattle.cuts.specs.Macro.{Alike}
+use Rattle.names.specs.Base.{SameCorners, Different, SameFace, markedAt, Marked}
+use Rattle.names.specs.Three.{formal, formalDown, standsFor, Macro}
+use Rattle.names.specs.Macro.{Alike}
 use Rattle.cuts.specs.Depth.{CutsBelow}
 use Rattle.cuts.specs.Grid.{MultipleOf2, Built, lowEnd, highEnd}
 use Rattle.cuts.specs.Least.{OneMore, Reaches}

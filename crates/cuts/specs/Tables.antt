@@ -11,9 +11,9 @@ use Rattle.edges.specs.Edges.{lowSlot, highSlot}
 use Rattle.piece.specs.Shape.{Shape, mark}
 use Rattle.cutting.specs.Cut.{childShape}
 use Rattle.cutting.specs.Theorems.{Valid, SamePair}
-use Rattle.cuts.specs.Names as Names
-use Rattle.cuts.specs.Names.{Name, mid}
-use Rattle.cuts.specs.Pieces.{Piece, Side, low, high, put, Node, kid}
+use Rattle.names.specs.Names as Names
+use Rattle.names.specs.Names.{Name, mid}
+use Rattle.names.specs.Pieces.{Piece, Side, low, high, put, Node, kid}
 use Rattle.cuts.specs.Sets.{Cuts}
 use Rattle.cuts.specs.Least.{sameNode}
 use Rattle.cuts.specs.Smaller.{goingDown}

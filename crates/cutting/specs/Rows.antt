@@ -1,15 +1,12 @@
 -- Rows of document 01's "A piece worked by hand", computed.
 use mathlib.Core.Path.{_≡_, refl}
-use mathlib.Core.Bool.{Bool, true, false}
-use mathlib.Core.List.{List, [], _∷_}
-use Prim.Native.Nat.{ℕ}
-use Rattle.laws.specs.Below.{foldBelow, firstBelow, allBelow}
+use mathlib.Core.List.{[], _∷_}
+use Rattle.laws.specs.Below.{firstBelow}
 use Rattle.edges.specs.Edges.{lowSlot, highSlot, hasSlot, otherEnd, joins, edgeBetween, onFace, opposite, oppositeOn, shares, sharedSlot}
-use Rattle.piece.specs.Shape.{Shape, slotA, slotB, edgeCD, slotC, slotD, otherMarksAre, typeP, typeA, typeO, typeM, setP, unsetP, markFits, flagFits, validShape}
-use Rattle.piece.specs.Ends.{lowerEnd, higherEnd, endsOf}
+use Rattle.piece.specs.Shape.{slotA, slotB, edgeCD, slotC, slotD, otherMarksAre, typeP, setP, unsetP}
+use Rattle.piece.specs.Ends.{lowerEnd, higherEnd}
 use Rattle.cutting.specs.Cut.{newMark, childFlag, childMark, childShape, childOf, cutOf}
 use Rattle.piece.specs.declared.Piece.{Piece}
-use Rattle.cutting.specs.declared.Children.{Children}
 
 abbrev K : Piece
 K = record { corners = 0 ∷ 1 ∷ 2 ∷ 3 ∷ []; edge = 2; marks = 4 ∷ 2 ∷ 2 ∷ 1 ∷ []; flag = 0; generation = 0 }

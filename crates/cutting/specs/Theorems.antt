@@ -1,17 +1,17 @@
 -- What holds of every cut of a valid shape. Each is one test that is computed over all valid shapes and both ends of the refinement edge.
-use mathlib.Core.Path.{_≡_, refl, sym, ap, ap₂, _∙_, subst}
-use mathlib.Core.Bool.{Bool, true, false, not, cond, _&&_, _||_, true≢false}
+use mathlib.Core.Path.{_≡_, refl, sym, ap, _∙_, subst}
+use mathlib.Core.Bool.{Bool, true, false, not, cond, _&&_, _||_}
 use mathlib.Core.Logic.{_⊎_, inl, inr, ⊎-elim}
-use mathlib.Core.List.{List, [], _∷_}
-use Prim.Native.Nat.{ℕ, zero, suc, _+_, _<_, _≤_}
+use mathlib.Core.List.{List}
+use Prim.Native.Nat.{ℕ, zero, suc, _+_, _<_}
 use native.Mathlib.Omega.{arith}
-use lib.ListN.{length, getD, set}
+use lib.ListN.{length, getD}
 use lib.Seq.{getD-set-same, getD-set-other}
-use lib.Dec.{eqb, ltb}
-use borrow.Author.Tests.{eqb-true, eqb-false, eq-eqb, ne-eqb}
+use lib.Dec.{eqb}
+use borrow.Author.Tests.{eqb-true, eqb-false, ne-eqb}
 use Rattle.laws.specs.Below.{foldBelow, allBelow, firstBelow, all-at, and-left, and-right, or-second, either, bit}
 use Rattle.edges.specs.Edges.{lowSlot, highSlot, hasSlot, otherEnd, joins, edgeBetween, onFace, opposite, oppositeOn, shares, sharedSlot}
-use Rattle.piece.specs.Shape.{Shape, mark, unset, slotA, slotB, edgeCD, slotC, slotD, otherMarksAre, typeP, typeA, typeO, typeM, setP, unsetP, markFits, flagFits, validShape}
+use Rattle.piece.specs.Shape.{Shape, mark, slotA, slotB, edgeCD, slotC, slotD, otherMarksAre, typeP, typeA, typeO, typeM, setP, unsetP, markFits, flagFits, validShape}
 use Rattle.cutting.specs.Cut.{newMark, childFlag, childMark, childShape, childCorners}
 use Rattle.piece.specs.Every.{everyShape, every-shape, onlyIf, onlyIf-holds}
 

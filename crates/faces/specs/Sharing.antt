@@ -1,12 +1,12 @@
 -- Two pieces with a face in common share three corners.
-use mathlib.Core.Path.{_≡_, refl, sym, ap, _∙_, subst}
-use mathlib.Core.Bool.{Bool, true, false, not, _&&_, _||_, true≢false, false≢true}
+use mathlib.Core.Path.{_≡_, refl, ap}
+use mathlib.Core.Bool.{Bool, true, false, not, _&&_, _||_}
 use mathlib.Core.Logic.{_⊎_, inl, inr, ⊎-elim}
-use Prim.Native.Nat.{ℕ, zero, suc, _+_, _≤_, _<_}
+use Prim.Native.Nat.{ℕ, _+_, _≤_, _<_}
 use native.Mathlib.Omega.{arith}
 use lib.Dec.{eqb}
-use borrow.Author.Tests.{eqb-true, eqb-false}
-use Rattle.laws.specs.Below.{anyBelow, any-is, any-where, any-fails, allBelow, all-at, countBelow, count-none, count-suc, bit, and-left, and-right, or-second, either}
+use borrow.Author.Tests.{eqb-true}
+use Rattle.laws.specs.Below.{anyBelow, any-is, any-where, any-fails, all-at, countBelow, count-none, count-suc, bit, and-left, and-right, or-second, either}
 use Rattle.piece.specs.declared.Piece.{Piece}
 use Rattle.piece.specs.Ends.{cornerAt}
 use Rattle.refusals.specs.Tables.{Tables}

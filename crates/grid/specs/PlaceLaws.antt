@@ -11,7 +11,7 @@ use lib.IntN.{ℤ, pos, natAbs, subℕ, _-ℤ_}
 use Rattle.algebra.specs.Solver.{variable, number, minus, solve}
 use Rattle.algebra.specs.Absolute.{difference-cases, difference-is, abs-difference, abs-difference-is}
 use Rattle.grid.specs.declared.Place.{Place}
-use Rattle.grid.specs.Places.{coordinate, coordinateOnGrid, halfwayOf}
+use Rattle.grid.specs.Places.{coordinate, coordinateOnGrid}
 
 -- coordinates differ as their places do
 pub coordinates-differ : (p q : ℕ) → coordinate p -ℤ coordinate q ≡ subℕ p q
@@ -34,11 +34,6 @@ pub record Held (p : Place) : Type 0 where
   pub x : p .x ≤ 65535
   pub y : p .y ≤ 65535
   pub z : p .z ≤ 65535
-
--- half the sum of two places that u16 hold is one
-pub halfway-held : (a b : Place) → Held a → Held b → Held (halfwayOf a b)
-unfolding halfwayOf
-halfway-held a b h k = omega arith
 
 -- the absolute value of the coordinate at p, by the side of 32,768 on which p lies
 coordinate-cases : (p : ℕ) (P : ℕ → Type 0) → (p < 32768 → P (32768 - p)) → (32768 ≤ p → P (p - 32768)) → P (natAbs (coordinate p))

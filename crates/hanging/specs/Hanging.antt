@@ -1,6 +1,6 @@
 -- The place found hanging, as the search returns it.
 use mathlib.Core.Path.{_≡_}
-use mathlib.Core.Bool.{Bool, true, false, cond}
+use mathlib.Core.Bool.{true, false, cond}
 use Prim.Native.Nat.{ℕ, _<_}
 use Rattle.laws.specs.Below.{anyBelow, any-is, any-fails, firstBelow, first-is, and-false}
 use Rattle.piece.specs.declared.Ends.{Ends}

@@ -6,7 +6,6 @@ use Prim.Native.Nat.{ℕ}
 use native.Mathlib.Omega.{arith}
 use Rattle.stored.specs.Layout.{headerOf, rightLength, rightMark}
 use Rattle.laws.specs.Below.{firstBelow}
-use Rattle.hanging.specs.declared.Found.{Found}
 use Rattle.hanging.specs.declared.Found.the-variants.{At, Nothing}
 use Rattle.hanging.specs.Hanging.{foundOf}
 use Rattle.refusals.specs.Tables.{Tables, tablesOf}

@@ -1,6 +1,4 @@
 // Check: judges a stored mesh.
-mod figures;
-
 use hanging::Found;
 use refusals::Report;
 use stored::Header;
@@ -55,7 +53,7 @@ fn accepted_with(h: Header, vertices: &[u8], records: &[u8]) -> Report
         number: 0,
         leaves: figures::leaves_of(h, vertices, records),
         deepest: figures::deepest_of(h, vertices, records),
-        sixfold: figures::sixfold_sum(h, vertices, records),
+        sixfold: figures::sixfold_within(h, vertices, records),
         record: 0,
         edge: 0,
     }

@@ -1,7 +1,7 @@
 -- Tests over the numbers below a bound: all of them, any of them, how many, the first. Each has a law for a loop that counts up:
 -- where it begins, after one more turn, and what the answer says of each number.
 use mathlib.Core.Path.{_≡_, refl, sym, ap, ap₂, _∙_, subst}
-use mathlib.Core.Bool.{Bool, true, false, not, cond, _&&_, _||_, true≢false, false≢true}
+use mathlib.Core.Bool.{Bool, true, false, cond, _&&_, _||_, true≢false, false≢true}
 use mathlib.Core.Logic.{_⊎_, inl, inr, ⊎-elim}
 use Prim.Native.Nat.{ℕ, zero, suc, _+_, _*_, _≤_, _<_, max}
 use native.Mathlib.Nat.{not-suc-le-zero, le-of-suc-le-suc, eq-or-lt-of-le, le-refl, le-antisymm}
@@ -73,10 +73,6 @@ fold-same start take (suc n) f g h = ap₂ take (fold-same start take n f g (λ 
 unfoldable pub allBelow : ℕ → (ℕ → Bool) → Bool
 unfolding foldBelow
 allBelow n P = foldBelow true _&&_ n P
-
-pub all-same : (n : ℕ) (P Q : ℕ → Bool) → ((k : ℕ) → k < n → P k ≡ Q k) → allBelow n P ≡ allBelow n Q
-unfolding allBelow
-all-same n P Q h = fold-same true _&&_ n P Q h
 
 module _ (P : ℕ → Bool) where
   pub all-none : allBelow 0 P ≡ true

@@ -8,7 +8,7 @@ use lib.Dec.{eqb, ltb}
 use Rattle.laws.specs.Below.{listBelow}
 use Rattle.stored.specs.declared.Header.{Header}
 use Rattle.stored.specs.Layout.{Mesh, meshBytes}
-use Rattle.refusals.specs.Tables.{Tables, tablesOf}
+use Rattle.refusals.specs.Tables.{tablesOf}
 use Rattle.refusals.specs.Refusals.{limits, wrongCounts, badVertices, badBaseRecords, badBaseFaces, unusedVertices}
 use Rattle.refusals.specs.Check.{Row, row, firstBroken}
 use Rattle.marking.specs.Marking.{plainVertex, plainRecord}

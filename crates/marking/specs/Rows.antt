@@ -4,7 +4,6 @@ use mathlib.Core.List.{List, [], _∷_}
 use Prim.Native.Nat.{ℕ}
 use lib.IntN.{ℤ, pos}
 use Rattle.laws.specs.Below.{foldBelow, anyBelow, firstBelow}
-use Rattle.piece.specs.declared.Piece.{Piece}
 use Rattle.edges.specs.Edges.{lowSlot, highSlot, hasSlot, onFace}
 use Rattle.piece.specs.Ends.{lowerEnd, higherEnd, endsOf}
 use Rattle.grid.specs.Places.{coordinate}

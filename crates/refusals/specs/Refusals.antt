@@ -1,13 +1,11 @@
 -- Document 01's table, refusals 1 to 10: for each number when exactly it is given.
 use mathlib.Core.Bool.{Bool, not, cond, _&&_, _||_}
-use mathlib.Core.List.{List, [], _∷_}
+use mathlib.Core.List.{List}
 use Prim.Native.Nat.{ℕ, _+_}
-use lib.ListN.{getD}
 use lib.Dec.{eqb, ltb, leb}
 use Rattle.laws.specs.Below.{anyBelow, allBelow, countBelow}
 use Rattle.piece.specs.declared.Piece.{Piece}
 use Rattle.piece.specs.declared.Ends.{Ends}
-use Rattle.cutting.specs.declared.Children.{Children}
 use Rattle.edges.specs.Edges.{lowSlot, highSlot}
 use Rattle.piece.specs.Shape.{shapeOf, mark, markFits}
 use Rattle.piece.specs.Ends.{cornerAt, endsOf}

@@ -1,8 +1,8 @@
 -- A decoded mesh as tables: its header, and a vertex and a record for each number.
 use mathlib.Core.Bool.{Bool, not, _&&_}
 use mathlib.Core.List.{List}
-use Prim.Native.Nat.{ℕ, _+_}
-use lib.Dec.{eqb, ltb, leb}
+use Prim.Native.Nat.{ℕ}
+use lib.Dec.{eqb, leb}
 use Rattle.laws.specs.Below.{anyBelow, firstBelow}
 use Rattle.piece.specs.declared.Piece.{Piece}
 use Rattle.piece.specs.declared.Ends.{Ends}

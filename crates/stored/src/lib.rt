@@ -1,4 +1,5 @@
-// The stored mesh, version 1, and the selection. Only this crate knows an offset, a width or a stride.
+// The stored mesh, version 1, and the selection. Only this crate and those that read and write for it (headers, entries, selections,
+// encoded, written) know an offset, a width or a stride.
 //
 // In memory every number is a u32, and a coordinate is its place. No reader and no writer asks anything of its slices: past the end a
 // byte reads as 0, and nothing is written there.

@@ -1,15 +1,15 @@
 -- The table of uses of refusal 8: "keep one count for each of the 1,024 possible vertices".
-use mathlib.Core.Path.{_≡_, refl, sym, ap, ap₂, _∙_, subst}
-use mathlib.Core.Bool.{Bool, true, false, not, _||_, false≢true}
-use mathlib.Core.Logic.{_⊎_, inl, inr, ⊎-elim}
+use mathlib.Core.Path.{_≡_, refl, sym, ap, _∙_, subst}
+use mathlib.Core.Bool.{Bool, true, false, not}
+use mathlib.Core.Logic.{_⊎_, ⊎-elim}
 use mathlib.Core.List.{List}
 use Prim.Native.Nat.{ℕ, zero, suc, _+_, _*_, _≤_, _<_}
 use native.Mathlib.Omega.{arith}
 use lib.ListN.{length, getD, set, replicate, length-set, length-replicate, getD-replicate, List·getD-eq-default}
-use lib.Seq.{getD-set-same, getD-set-other, set-out}
+use lib.Seq.{getD-set-same, getD-set-other}
 use lib.Dec.{eqb, ltb}
 use borrow.Author.Tests.{eqb-true, eqb-false, eq-eqb, ne-eqb, ltb-true, ltb-false}
-use Rattle.laws.specs.Below.{foldBelow, sumBelow, sum-none, sum-suc, sum-at-most, sum-at-least, anyBelow, any-is, any-where, any-fails, any-fails-at, bit, bit-small, either}
+use Rattle.laws.specs.Below.{foldBelow, sumBelow, sum-none, sum-suc, sum-at-most, sum-at-least, anyBelow, any-where, any-fails-at, bit, bit-small, either}
 use Rattle.piece.specs.declared.Piece.{Piece}
 use Rattle.piece.specs.Ends.{cornerAt}
 use Rattle.refusals.specs.Tables.{Tables, pieceAt, baseRecords}

@@ -1,13 +1,13 @@
 -- What code that computes sixfold volumes needs, and how large they can be.
 -- Assumes nothing.
-use mathlib.Core.Path.{_≡_, refl, sym, _∙_, subst⁻¹}
+use mathlib.Core.Path.{_≡_, sym, _∙_, subst⁻¹}
 use mathlib.Core.List.{List, [], _∷_}
 use Prim.Native.Nat.{ℕ, zero, suc, _*_, _^_, _≤_, zero-le}
 use lib.ListN.{getD}
 use lib.IntN.{ℤ, pos, natAbs, _+ℤ_, _-ℤ_, _*ℤ_}
 use Rattle.algebra.specs.Absolute.{difference-is}
 use Rattle.grid.specs.declared.Place.{Place}
-use Rattle.grid.specs.Places.{Point, coordinate, pointOf}
+use Rattle.grid.specs.Places.{coordinate, pointOf}
 use Rattle.grid.specs.PlaceLaws.{Held, coordinates-differ, apart-within}
 use Rattle.volume.specs.Volume.{entry, minorOf, determinantOf, differenceOf, differencesOf, sixfoldOf, cornersOf}
 use Rattle.volume.specs.Exact.{Holds, readBack, itself, passed, stored, returned, sum, difference, product}
@@ -96,8 +96,3 @@ sixfold-within a b c d ha hb hc hd =
     row p q h k =
         three-within 65535 (coordinate (p .x) -ℤ coordinate (q .x)) (coordinate (p .y) -ℤ coordinate (q .y)) (coordinate (p .z) -ℤ coordinate (q .z))
         (apart-within 65535 (p .x) (q .x) (h .x) (k .x)) (apart-within 65535 (p .y) (q .y) (h .y) (k .y)) (apart-within 65535 (p .z) (q .z) (h .z) (k .z))
-
--- a sixfold volume reads slots 0 to 3 and no other
-pub sixfold-reads : (corner : ℕ → Point) → sixfoldOf (cornersOf (corner 0) (corner 1) (corner 2) (corner 3)) ≡ sixfoldOf corner
-unfolding sixfoldOf differencesOf
-sixfold-reads corner = refl

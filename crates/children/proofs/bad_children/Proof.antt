@@ -2,7 +2,6 @@
 -- Assumes nothing.
 use borrow.Author.Needs.{needs}
 use borrow.Author.Tests.{le-leb, lt-leb, not-true, not-false}
-use Rattle.stored.specs.declared.Record.{Record}
 use Rattle.refusals.specs.Refusals.{badChildren}
 use Rattle.children.proofs.bad_children.Statement.{statement}
 use Rattle.children.proofs.bad_children.Tie as tie

@@ -1,7 +1,6 @@
 -- `cutting::other_end`: each way out is one case of the definition, at what the calls return.
 -- Assumes nothing.
 use borrow.Author.Needs.{needs}
-use mathlib.Core.Path.{refl, sym, _∙_}
 use borrow.Author.Tests.{eq-eqb, ne-eqb}
 use Rattle.edges.specs.Edges.{otherEnd}
 use Rattle.cutting.proofs.other_end.Statement.{statement}

@@ -1,7 +1,6 @@
 -- `edges::has_slot`: each test is one half of the definition.
 -- Assumes nothing.
 use borrow.Author.Needs.{needs}
-use mathlib.Core.Path.{refl}
 use borrow.Author.Tests.{eq-eqb, ne-eqb}
 use Rattle.edges.specs.Edges.{hasSlot}
 use Rattle.edges.proofs.has_slot.Statement.{statement}

@@ -1,7 +1,6 @@
 -- `edges::on_face`: each way out is one case of the definition.
 -- Assumes nothing.
 use borrow.Author.Needs.{needs}
-use mathlib.Core.Path.{refl}
 use borrow.Author.Tests.{lt-ltb, le-ltb}
 use Rattle.edges.specs.Edges.{onFace}
 use Rattle.edges.proofs.on_face.Statement.{statement}

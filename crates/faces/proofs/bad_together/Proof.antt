@@ -6,7 +6,7 @@ use mathlib.Core.Path.{sym, _∙_, subst}
 use denote.Ref.{now}
 use Rattle.refusals.specs.Tables.{tables}
 use Rattle.refusals.specs.Refusals.{badTogether}
-use Rattle.faces.specs.Sharing.{sharedCorners, few-shared}
+use Rattle.faces.specs.Sharing.{few-shared}
 use Rattle.faces.proofs.bad_together.Statement.{statement}
 use Rattle.faces.proofs.bad_together.Tie as tie
 

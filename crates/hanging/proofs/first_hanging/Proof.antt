@@ -8,8 +8,7 @@ use native.Mathlib.Omega.{arith}
 use denote.Ref.{now}
 use borrow.Author.Tests.{not-true, not-false}
 use Rattle.laws.specs.Below.{anyBelow, any-none, any-next, any-end}
-use Rattle.hanging.specs.declared.Found.{Found}
-use Rattle.hanging.specs.declared.Found.the-variants.{At, Nothing}
+use Rattle.hanging.specs.declared.Found.the-variants.{Nothing}
 use Rattle.refusals.specs.Tables.{tables, hasParents}
 use Rattle.refusals.specs.Refusals.{hangsAt, leafHangs}
 use Rattle.hanging.specs.Hanging.{not-leaf, rests, place-found, none-found}

@@ -4,10 +4,9 @@ use borrow.Author.Needs.{needs}
 use mathlib.Core.Path.{sym, _∙_}
 use denote.Ref.{now}
 use borrow.Author.Tests.{not-true, not-false}
-use Rattle.refusals.specs.Refusals.{limits, wrongCounts}
 use Rattle.refusals.specs.Bounded.{bounded}
-use Rattle.judge.specs.Order.{judgedReport, check-1, check-2, check-3, check-rest}
-use Rattle.refusals.specs.Tables.{tables, tablesOf}
+use Rattle.judge.specs.Order.{check-1, check-2, check-3, check-rest}
+use Rattle.refusals.specs.Tables.{tablesOf}
 use Rattle.judge.proofs.check.Statement.{statement}
 use Rattle.judge.proofs.check.Tie as tie
 

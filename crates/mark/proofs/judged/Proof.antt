@@ -3,9 +3,7 @@
 use borrow.Author.Needs.{needs}
 use mathlib.Core.Path.{_≡_, sym, _∙_, subst}
 use denote.Ref.{now}
-use Rattle.refusals.specs.Bounded.{Bounded}
 use Rattle.refusals.specs.Tables.{Tables, tables}
-use Rattle.stored.specs.declared.Header.{Header}
 use Rattle.mark.specs.Storing.{judgedNumber, judged-4, judged-5, judged-7, judged-8, judged-0, tables-read}
 use Rattle.mark.proofs.judged.Statement.{statement}
 use Rattle.mark.proofs.judged.Tie as tie

@@ -5,7 +5,6 @@ use Prim.Native.Nat.{ℕ}
 use mathlib.Core.Path.{ap}
 use lib.Dec.{eqb}
 use Rattle.stored.specs.Layout.{none}
-use Rattle.refusals.specs.Tables.{isLeaf}
 use Rattle.refusals.proofs.is_leaf.Statement.{statement}
 use Rattle.refusals.proofs.is_leaf.Tie as tie
 

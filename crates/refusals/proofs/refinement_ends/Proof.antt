@@ -4,7 +4,6 @@ use borrow.Author.Needs.{needs}
 use mathlib.Core.Path.{_∙_, ap}
 use Rattle.stored.specs.declared.Record.{Record}
 use Rattle.piece.specs.Ends.{endsOf}
-use Rattle.refusals.specs.Tables.{refinementEnds}
 use Rattle.refusals.proofs.refinement_ends.Statement.{statement}
 use Rattle.refusals.proofs.refinement_ends.Tie as tie
 

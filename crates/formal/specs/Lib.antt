@@ -1,0 +1,2 @@
+-- How faces are shared three cuts down, computed over all valid shapes. No bytes.
+pub mod FacesFormal

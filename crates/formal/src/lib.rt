@@ -1,0 +1,1 @@
+// How faces are shared three cuts down: theorems only.
