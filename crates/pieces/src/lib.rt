@@ -1,4 +1,4 @@
-// Refusals 5, 6 and 8: base records that are no pieces, marks that do not fit, base vertices in no base record.
+// Refusals 5 and 6: base records that are no pieces, and marks that do not fit.
 use piece::Piece;
 use stored::Header;
 ghost use mathlib.Core.Path.{_≡_};
