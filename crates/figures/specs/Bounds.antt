@@ -15,6 +15,7 @@ use Rattle.volume.specs.VolumeLaws.{sixfold-within}
 use Rattle.stored.specs.declared.Header.{Header}
 use Rattle.stored.specs.Layout.{vertexIn, vertexFrom}
 use Rattle.refusals.specs.Tables.{Tables, tables, allRecords, isLeaf, pieceAt, sixfoldAt}
+use Rattle.refusals.specs.Refusals.{limits}
 use Rattle.refusals.specs.Check.{leafSixfold, sixfold}
 
 -- Every place that is read is a u16.
@@ -45,8 +46,8 @@ leaf-at-most h vertices records n =
 
 -- "At most [..] 3,072 records": the sum over so many, and 0 for a count that refusal 3 refuses.
 unfoldable pub sixfoldWithin : Tables → ℕ
-sixfoldWithin m = cond (ltb 3072 (allRecords m)) 0 (sixfold m)
+sixfoldWithin m = cond (ltb (limits .records) (allRecords m)) 0 (sixfold m)
 
-pub within-is : (m : Tables) → allRecords m ≤ 3072 → sixfoldWithin m ≡ sixfold m
+pub within-is : (m : Tables) → allRecords m ≤ limits .records → sixfoldWithin m ≡ sixfold m
 unfolding sixfoldWithin
-within-is m l = rw (le-ltb 3072 (allRecords m) l)
+within-is m l = rw (le-ltb (limits .records) (allRecords m) l)

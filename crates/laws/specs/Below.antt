@@ -239,12 +239,9 @@ module _ (P : ℕ → Bool) where
   unfolding countBelow
   count-suc n = sum-suc (λ k. bit (P k)) n
 
-  -- a turn that counts, and one that does not
-  pub count-next : (i c : ℕ) → c ≡ countBelow i P → P i ≡ true → c + 1 ≡ countBelow (i + 1) P
-  count-next i c inv here = rw (add-one i, count-suc, ← inv, here)
-
-  pub count-passes : (i c : ℕ) → c ≡ countBelow i P → P i ≡ false → c ≡ countBelow (i + 1) P
-  count-passes i c inv here = rw (add-one i, count-suc, ← inv, here) (omega arith)
+  -- one more turn, whether it counts or not
+  pub count-next : (i c x : ℕ) → c ≡ countBelow i P → x ≡ bit (P i) → c + x ≡ countBelow (i + 1) P
+  count-next i c x inv is = rw (add-one i, count-suc, ← inv, is)
 
   pub count-at-most : (n : ℕ) → countBelow n P ≤ n
   count-at-most zero = rw count-none (omega arith)

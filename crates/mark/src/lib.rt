@@ -10,11 +10,6 @@ ghost use Rattle.refusals.specs.Bounded.{Bounded};
 ghost use Rattle.mark.specs.Build.{notWhole, plainHeader, plainBytes, buildNumber, buildBytes};
 ghost use Rattle.mark.specs.Storing.{verticesPut, recordsPut, meshPut, judgedNumber, laterNumber, laterBytes};
 
-// As many bytes as the largest mesh has.
-const MOST: usize = stored::HEADER_WIDTH
-    + 1024 * stored::VERTEX_WIDTH
-    + 3072 * stored::RECORD_WIDTH;
-
 fn clear(out: &mut [u8])
     ensures { λ _. ⌜ now (out .exit) ≡ replicate (length (now (out .entry))) 0 ⌝ }
 {
@@ -152,7 +147,7 @@ fn store(job: u32, coordinates: &[i16], corners: &[u16], out: &mut [u8]) -> u32
     ensures { λ _. ⌜ now (out .exit) ≡ laterBytes (plainBytes job (now (coordinates .entry)) (now (corners .entry))) (length (now (out .entry))) ⌝ }
 {
     let h = plain_header(job, coordinates, corners);
-    let mut work = [0u8; MOST];
+    let mut work = [0u8; stored::LARGEST];
     put_mesh(&mut work, h, coordinates, corners);
     let n = headers::mesh_length(h.vertices, h.records);
     finish(&work[..n], out)

@@ -1,4 +1,4 @@
-// The vertex with a given parent pair: the one search that rules 9 and 10 and every cut share.
+// The vertex with a given parent pair: the one search that rules 4, 9 and 10 and every cut share.
 use piece::Ends;
 use stored::Header;
 ghost use mathlib.Core.Path.{_≡_};

@@ -37,7 +37,7 @@ fn shown(
 }
 
 fn main() {
-    let mut out = [0u8; 62484];
+    let mut out = [0u8; stored::LARGEST];
     let k_coordinates: [i16; 12] = [0, 0, 0, 64, 0, 0, 64, 64, 0, 64, 64, 64];
     let k_corners: [u16; 4] = [0, 1, 2, 3];
     shown(

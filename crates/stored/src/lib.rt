@@ -14,6 +14,9 @@ pub const VERTEX_WIDTH: usize = 10;
 
 pub const RECORD_WIDTH: usize = 17;
 
+// "The largest mesh is 62,484 bytes": 1,024 vertices and 3,072 records.
+pub const LARGEST: usize = HEADER_WIDTH + 1024 * VERTEX_WIDTH + 3072 * RECORD_WIDTH;
+
 pub struct Header {
     pub job: u32,
     pub round: u32,

@@ -1,14 +1,12 @@
 -- `faces::shared_corners` has counted the slots before k.
 -- Assumes nothing.
 use borrow.Author.Needs.{needs}
-use Prim.Native.Nat.{ℕ, _≤_, _-_, _+_}
+use Prim.Native.Nat.{ℕ, _≤_, _-_}
 use mathlib.Core.Path.{_≡_, sym, _∙_, ap, subst}
 use native.Mathlib.Omega.{arith}
-use Rattle.laws.specs.Below.{countBelow, count-none}
 use Rattle.piece.specs.Ends.{cornerAt}
-use Rattle.laws.specs.Below.{count-suc, count-at-most, bit-small}
+use Rattle.laws.specs.Below.{bit, bit-small, countBelow, count-none, count-next, count-at-most}
 use native.Mathlib.Nat.{le-antisymm}
-use native.Mathlib.Numerals.{add-one}
 use Rattle.refusals.specs.Refusals.{hasCorner}
 use Rattle.faces.specs.Sharing.{sharedCorners}
 use Rattle.faces.proofs.shared_corners.Statement.{statement}
@@ -27,7 +25,7 @@ add-c : tie.Need-add-c Inv-loop μ-loop
 add-c c = let few : c .before .before .before .loop .c ≤ c .before .before .before .loop .k = subst (λ (x : ℕ). x ≤ c .before .before .before .loop .k) (sym (c .before .before .before .loop .inv .1)) (count-at-most (λ k. hasCorner (c .before .before .before .before .args .q) (cornerAt (c .before .before .before .before .args .p) k)) (c .before .before .before .loop .k)) in let one = c .one-if .ensures in let small = bit-small (c .before .shares .result) in omega (arith, c .before .before .before .loop .inv .0)
 
 loop-again : tie.Need-loop-again Inv-loop μ-loop
-loop-again c = (omega arith, rw (add-one (c .before .before .before .loop .k), count-suc (λ k. hasCorner (c .before .before .before .before .args .q) (cornerAt (c .before .before .before .before .args .p) k)), ← c .before .before .before .loop .inv .1, ← c .before .shares .ensures) (ap (λ (x : ℕ). c .before .before .before .loop .c + x) (c .one-if .ensures)))
+loop-again c = (omega arith, count-next (λ k. hasCorner (c .before .before .before .before .args .q) (cornerAt (c .before .before .before .before .args .p) k)) (c .before .before .before .loop .k) (c .before .before .before .loop .c) (c .one-if .result) (c .before .before .before .loop .inv .1) (c .one-if .ensures ∙ ap bit (c .before .shares .ensures)))
 
 returns : tie.Need-returns Inv-loop μ-loop
 unfolding sharedCorners

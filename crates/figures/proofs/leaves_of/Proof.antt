@@ -1,14 +1,12 @@
 -- `figures::leaves_of` has counted the leaves before n.
 -- Assumes nothing.
 use borrow.Author.Needs.{needs}
-use Prim.Native.Nat.{ℕ, _≤_, _-_, _+_}
+use Prim.Native.Nat.{ℕ, _≤_, _-_}
 use mathlib.Core.Path.{_≡_, sym, _∙_, ap, subst}
 use native.Mathlib.Omega.{arith}
 use denote.Ref.{now}
-use Rattle.laws.specs.Below.{countBelow, count-none}
-use Rattle.laws.specs.Below.{count-suc, count-at-most, bit-small}
+use Rattle.laws.specs.Below.{bit, bit-small, countBelow, count-none, count-next, count-at-most}
 use native.Mathlib.Nat.{le-antisymm}
-use native.Mathlib.Numerals.{add-one}
 use Rattle.refusals.specs.Tables.{tables, isLeaf}
 use Rattle.refusals.specs.Check.{leaves}
 use Rattle.figures.proofs.leaves_of.Statement.{statement}
@@ -27,7 +25,7 @@ add-total : tie.Need-add-total Inv-loop μ-loop
 add-total c = let few : c .before .before .before .loop .total ≤ c .before .before .before .loop .n = subst (λ (x : ℕ). x ≤ c .before .before .before .loop .n) (sym (c .before .before .before .loop .inv .1)) (count-at-most (isLeaf (tables (c .before .before .before .before .before .before .before .args .h) (now (c .before .before .before .before .before .before .before .args .vertices)) (now (c .before .before .before .before .before .before .before .args .records)))) (c .before .before .before .loop .n)) in let one = c .one-if .ensures in let small = bit-small (c .before .is-leaf .result) in omega (arith, c .before .before .before .loop .inv .0)
 
 loop-again : tie.Need-loop-again Inv-loop μ-loop
-loop-again c = (omega arith, rw (add-one (c .before .before .before .loop .n), count-suc (isLeaf (tables (c .before .before .before .before .before .before .before .args .h) (now (c .before .before .before .before .before .before .before .args .vertices)) (now (c .before .before .before .before .before .before .before .args .records)))), ← c .before .before .before .loop .inv .1, ← c .before .is-leaf .ensures) (ap (λ (x : ℕ). c .before .before .before .loop .total + x) (c .one-if .ensures)))
+loop-again c = (omega arith, count-next (isLeaf (tables (c .before .before .before .before .before .before .before .args .h) (now (c .before .before .before .before .before .before .before .args .vertices)) (now (c .before .before .before .before .before .before .before .args .records)))) (c .before .before .before .loop .n) (c .before .before .before .loop .total) (c .one-if .result) (c .before .before .before .loop .inv .1) (c .one-if .ensures ∙ ap bit (c .before .is-leaf .ensures)))
 
 returns : tie.Need-returns Inv-loop μ-loop
 unfolding leaves
