@@ -9,9 +9,9 @@ use lib.ListN.{length, length-append}
 use lib.Dec.{eqb}
 use borrow.Author.Tests.{eqb-true, eqb-false, not-true}
 use Rattle.laws.specs.Below.{and-left, and-right, or-true, or-second, either}
-use Rattle.names.specs.Lists.{both-ways, not-so, among, Distinct, passing, among-append, distinct-append, no-longer, passing-among, passing-distinct, once, once-among, once-distinct, map-among, map-where}
-use Rattle.names.specs.Names.{Name, sameName, name-equality}
-use Rattle.names.specs.Pieces.{Piece, Side, low, high, Node, generation, kid, pieceAt, makes}
+use Rattle.cuts_names.specs.Lists.{both-ways, not-so, among, Distinct, passing, among-append, distinct-append, no-longer, passing-among, passing-distinct, once, once-among, once-distinct, map-among, map-where}
+use Rattle.cuts_names.specs.Names.{Name, sameName, name-equality}
+use Rattle.cuts_names.specs.Pieces.{Piece, Side, low, high, Node, generation, kid, pieceAt, makes}
 use Rattle.cuts.specs.Sets.{Cuts, There, Leaf, Within}
 use Rattle.cuts.specs.Depth.{CutsBelow, cut-there}
 use Rattle.cuts.specs.Least.{sameNode, node-equality}

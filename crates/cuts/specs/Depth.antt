@@ -9,11 +9,11 @@ use lib.ListN.{length}
 use lib.Dec.{ltb}
 use borrow.Author.Tests.{ltb-true, ltb-false}
 use Rattle.laws.specs.Below.{either}
-use Rattle.names.specs.Names.{Name, level}
-use Rattle.names.specs.Pieces.{Piece, Side, low, Node, kid, generation}
+use Rattle.cuts_names.specs.Names.{Name, level}
+use Rattle.cuts_names.specs.Pieces.{Piece, Side, low, Node, kid, generation}
 use Rattle.cuts.specs.Sets.{Cuts, There, Leaf, HangsAt, Hangs}
-use Rattle.names.specs.Base.{Marked}
-use Rattle.names.specs.Macro.{node-macro, node-level}
+use Rattle.cuts_names.specs.Base.{Marked}
+use Rattle.cuts_names.specs.Macro.{node-macro, node-level}
 
 -- Every cut has a generation below B.
 abbrev pub CutsBelow : {count : ℕ} → ℕ → Cuts count → Type 0

@@ -10,12 +10,12 @@ use lib.Dec.{eqb, ltb}
 use borrow.Author.Tests.{eqb-true, ne-eqb, ltb-true, ltb-false}
 use Rattle.laws.specs.Below.{foldBelow, allBelow, all-at, or-second, either}
 use Rattle.piece.specs.Every.{onlyIf, onlyIf-holds}
-use Rattle.names.specs.Names.{Name, level}
-use Rattle.names.specs.Pieces.{Piece, Side, child, Node, generation, pieceDown, pieceAt, piece-root}
-use Rattle.names.specs.Base.{Different, HasCorner, OnFace, SameCorners, SameFace, markedAt, Marked}
-use Rattle.names.specs.Three.{formal, formalDown, Macro}
-use Rattle.names.specs.Macro.{node-macro, corner-level}
-use Rattle.formal.specs.FacesFormal.{Kind, inherited, across, inside, Across, Inside, formal-across, formal-kind}
+use Rattle.cuts_names.specs.Names.{Name, level}
+use Rattle.cuts_names.specs.Pieces.{Piece, Side, child, Node, generation, pieceDown, pieceAt, piece-root}
+use Rattle.cuts_names.specs.Base.{Different, HasCorner, OnFace, SameCorners, SameFace, markedAt, Marked}
+use Rattle.cuts_names.specs.Three.{formal, formalDown, Macro}
+use Rattle.cuts_names.specs.Macro.{node-macro, corner-level}
+use Rattle.cuts_formal.specs.FacesFormal.{Kind, inherited, across, inside, Across, Inside, formal-across, formal-kind}
 use Rattle.cuts.specs.FacesNames.{under-map, under-corner, across-under, inside-under, new-on, different-down, inherited-same, inherited-marked, below-one-path, below-one-mark, inside-last, last-one-mark}
 
 -- ---- four corners among four

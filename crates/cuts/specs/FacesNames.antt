@@ -9,17 +9,17 @@ use lib.ListN.{length}
 use lib.Dec.{eqb, ltb}
 use borrow.Author.Tests.{eqb-true, eqb-false, eq-eqb, ne-eqb, ltb-true, ltb-false, not-true}
 use Rattle.laws.specs.Below.{foldBelow, allBelow, firstBelow, all-at, and-left, and-right, or-second, or-left-false, or-right-false, either}
-use Rattle.edges.specs.Edges.{lowSlot, highSlot, hasSlot, joins, edgeBetween, onFace, opposite}
+use Rattle.piece_edges.specs.Edges.{lowSlot, highSlot, hasSlot, joins, edgeBetween, onFace, opposite}
 use Rattle.piece.specs.Shape.{Shape, mark, markFits, flagFits, validShape}
 use Rattle.piece.specs.Every.{onlyIf, onlyIf-holds}
-use Rattle.cutting.specs.Theorems.{Valid, SamePair, slots-small}
-use Rattle.names.specs.Names.{Name, mid, mid-sym, mid-injective, level}
-use Rattle.names.specs.Pieces.{Piece, Side, renamed, midOf, pieceDown}
-use Rattle.names.specs.Lists.{same-tests}
-use Rattle.names.specs.Base.{Different, HasCorner, OnFace, SameFace, markedAt}
-use Rattle.names.specs.Three.{formal, formalDown, standsFor, Macro}
-use Rattle.names.specs.Macro.{has-low, has-high, down-stands, stands-corner, stands-past, stands-mid, old-level, new-level, mid-alike, formal-small}
-use Rattle.formal.specs.FacesFormal.{some-slot, is-some-slot, onFormal, lies, lies-old, lies-new, under, code, code-same, Inherited, Across, Inside, formal-different, formal-one-path, formal-one-mark}
+use Rattle.piece_cut.specs.Theorems.{Valid, SamePair, slots-small}
+use Rattle.cuts_names.specs.Names.{Name, mid, mid-sym, mid-injective, level}
+use Rattle.cuts_names.specs.Pieces.{Piece, Side, renamed, midOf, pieceDown}
+use Rattle.cuts_names.specs.Lists.{same-tests}
+use Rattle.cuts_names.specs.Base.{Different, HasCorner, OnFace, SameFace, markedAt}
+use Rattle.cuts_names.specs.Three.{formal, formalDown, standsFor, Macro}
+use Rattle.cuts_names.specs.Macro.{has-low, has-high, down-stands, stands-corner, stands-past, stands-mid, old-level, new-level, mid-alike, formal-small}
+use Rattle.cuts_formal.specs.FacesFormal.{some-slot, is-some-slot, onFormal, lies, lies-old, lies-new, under, code, code-same, Inherited, Across, Inside, formal-different, formal-one-path, formal-one-mark}
 
 -- x lies under the names S, seen from level k: it is one of them, or they have a midpoint of level k + 1 with x for a parent.
 abbrev pub Under : ℕ → (Name → Type 0) → Name → Type 0

@@ -8,11 +8,11 @@ use native.Mathlib.Omega.{arith}
 use native.Mathlib.Nat.{two-pow-succ, one-le-pow}
 use lib.ListN.{length}
 use Rattle.laws.specs.Below.{anyBelow, any-is, any-where, or-true, or-second, either}
-use Rattle.names.specs.Lists.{both-ways, not-so, same-tests, among, without, anyOf, among-head, among-tail, without-keeps, without-within, without-gone, without-distinct, anyOf-where, anyOf-is}
-use Rattle.names.specs.Names.{Name, sameName, name-equality}
-use Rattle.names.specs.Pieces.{Piece, Side, low, high, Node, generation, kid, pieceAt, makes, midOf}
+use Rattle.cuts_names.specs.Lists.{both-ways, not-so, same-tests, among, without, anyOf, among-head, among-tail, without-keeps, without-within, without-gone, without-distinct, anyOf-where, anyOf-is}
+use Rattle.cuts_names.specs.Names.{Name, sameName, name-equality}
+use Rattle.cuts_names.specs.Pieces.{Piece, Side, low, high, Node, generation, kid, pieceAt, makes, midOf}
 use Rattle.cuts.specs.Sets.{Cuts, There, Leaf, Within, HangsAt, Hangs, NoneHangs}
-use Rattle.names.specs.Base.{Marked}
+use Rattle.cuts_names.specs.Base.{Marked}
 use Rattle.cuts.specs.Depth.{CutsBelow, hanging-below}
 use Rattle.cuts.specs.Least.{sameNode, node-equality, there-within, OneMore, adding, adding-is, more-keeps, more-has, more-only, Reaches, stop, cut, reached-keeps, reached-least, reached-below}
 use Rattle.cuts.specs.Count.{CutList, LeafList, leavesOf, leaves-listed}

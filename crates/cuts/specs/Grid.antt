@@ -5,14 +5,14 @@ use Prim.Native.Nat.{ℕ, zero, suc, _+_, _-_, _*_, _/_, _^_, _<_, _≤_, max}
 use native.Mathlib.Omega.{arith}
 use native.Mathlib.Nat.{mul-assoc, mul-add, add-mul, pow-suc, two-pow-succ}
 use lib.Dec.{eqb}
-use Rattle.edges.specs.Edges.{lowSlot, highSlot}
-use Rattle.cutting.specs.Theorems.{slots-small}
-use Rattle.names.specs.Lists.{either-has}
-use Rattle.names.specs.Names as Names
-use Rattle.names.specs.Names.{Name, mid, level, level-mid}
-use Rattle.names.specs.Pieces.{Piece, Side, endAt, childWith, child, Node, generation, pieceDown, pieceAt, makes}
-use Rattle.names.specs.Base.{Marked}
-use Rattle.names.specs.Macro.{node-level}
+use Rattle.piece_edges.specs.Edges.{lowSlot, highSlot}
+use Rattle.piece_cut.specs.Theorems.{slots-small}
+use Rattle.cuts_names.specs.Lists.{either-has}
+use Rattle.cuts_names.specs.Names as Names
+use Rattle.cuts_names.specs.Names.{Name, mid, level, level-mid}
+use Rattle.cuts_names.specs.Pieces.{Piece, Side, endAt, childWith, child, Node, generation, pieceDown, pieceAt, makes}
+use Rattle.cuts_names.specs.Base.{Marked}
+use Rattle.cuts_names.specs.Macro.{node-level}
 
 -- ---- multiples of powers of two
 

@@ -7,12 +7,12 @@ use Prim.Native.Nat.{ℕ, suc, _*_, _<_, _≤_}
 use lib.Dec.{eqb}
 use borrow.Author.Tests.{eqb-true, eq-eqb}
 use Rattle.laws.specs.Below.{and-left, and-right, or-true, or-second, either}
-use Rattle.names.specs.Names.{Name}
-use Rattle.names.specs.Pieces.{Piece, Side, low, high, Node, generation, kid}
+use Rattle.cuts_names.specs.Names.{Name}
+use Rattle.cuts_names.specs.Pieces.{Piece, Side, low, high, Node, generation, kid}
 use Rattle.cuts.specs.Sets.{Cuts, There, Leaf, Within, HangsAt, Hangs, NoneHangs}
-use Rattle.names.specs.Base.{Marked}
+use Rattle.cuts_names.specs.Base.{Marked}
 use Rattle.cuts.specs.Depth.{CutsBelow, there-rooted, there-below, cuts-below-leaves, hanging-below}
-use Rattle.names.specs.Lists.{Equality}
+use Rattle.cuts_names.specs.Lists.{Equality}
 
 -- ---- equal nodes
 

@@ -2,10 +2,10 @@
 use mathlib.Core.Path.{refl, sym, _∙_}
 use mathlib.Core.List.{List, [], _∷_}
 use Prim.Native.Nat.{ℕ, _<_}
-use Rattle.names.specs.Names.{Name}
-use Rattle.names.specs.Pieces.{Piece, Side, Node, pieceAt, child, piece-root, piece-kid}
+use Rattle.cuts_names.specs.Names.{Name}
+use Rattle.cuts_names.specs.Pieces.{Piece, Side, Node, pieceAt, child, piece-root, piece-kid}
 use Rattle.cuts.specs.Sets.{Cuts, There, HangsAt}
-use Rattle.names.specs.Macro.{Alike, mid-alike, makes-alike, child-alike}
+use Rattle.cuts_names.specs.Macro.{Alike, mid-alike, makes-alike, child-alike}
 use Rattle.cuts.specs.Depth.{there-rooted}
 
 -- Every piece is like itself; likeness goes both ways, and on.

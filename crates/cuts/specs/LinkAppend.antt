@@ -7,15 +7,15 @@ use native.Mathlib.Omega.{arith}
 use lib.Dec.{eqb, ltb}
 use borrow.Author.Tests.{eqb-true, eqb-false, ltb-true, ltb-false}
 use Rattle.laws.specs.Below.{either}
-use Rattle.edges.specs.Edges.{lowSlot, highSlot}
+use Rattle.piece_edges.specs.Edges.{lowSlot, highSlot}
 use Rattle.piece.specs.Shape.{Shape, mark}
-use Rattle.cutting.specs.Cut.{childShape}
-use Rattle.cutting.specs.Theorems.{slots-small}
-use Rattle.names.specs.Lists.{both-ways}
-use Rattle.names.specs.Names.{mid}
-use Rattle.names.specs.Pieces.{Side, low, high, Node, kid}
+use Rattle.piece_cut.specs.Cut.{childShape}
+use Rattle.piece_cut.specs.Theorems.{slots-small}
+use Rattle.cuts_names.specs.Lists.{both-ways}
+use Rattle.cuts_names.specs.Names.{mid}
+use Rattle.cuts_names.specs.Pieces.{Side, low, high, Node, kid}
 use Rattle.cuts.specs.Sets.{Cuts}
-use Rattle.names.specs.Macro.{Alike, edge-below}
+use Rattle.cuts_names.specs.Macro.{Alike, edge-below}
 use Rattle.cuts.specs.Least.{OneMore, adding, adding-is, more-keeps, more-has, more-only}
 use Rattle.cuts.specs.Smaller.{by-smaller}
 use Rattle.cuts.specs.Tables.{Tables, Made, lowFirst, lowerEnd, higherEnd, Midpoint, ChildOf, ProperlyCut, IsChild, HasVertex, FaceHas, SameEdge, Lawful, nameOf, pieceOf, childOn, nodeOf, Represents, NewVertex, Appended}

@@ -4,10 +4,10 @@ use mathlib.Core.Bool.{false}
 use mathlib.Core.Logic.{_⊎_, inl, inr, ⊎-elim}
 use Prim.Native.Nat.{ℕ, _<_}
 use native.Mathlib.Omega.{arith}
-use Rattle.names.specs.Names.{Name}
-use Rattle.names.specs.Pieces.{Piece, Node}
+use Rattle.cuts_names.specs.Names.{Name}
+use Rattle.cuts_names.specs.Pieces.{Piece, Node}
 use Rattle.cuts.specs.Sets.{Cuts, HangsAt, Hangs, NoneHangs}
-use Rattle.names.specs.Macro.{Alike}
+use Rattle.cuts_names.specs.Macro.{Alike}
 use Rattle.cuts.specs.Least.{OneMore, adding, adding-is, Reaches, cut}
 use Rattle.cuts.specs.Tables.{Tables, Lawful, HangsIn, pieceOf, nodeOf, Represents, Appended}
 use Rattle.cuts.specs.LinkAlike.{alike-self, alike-back, alike-then, hangs-alike}

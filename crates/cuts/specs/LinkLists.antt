@@ -7,7 +7,7 @@ use Prim.Native.Nat.{ℕ, zero, suc, _<_}
 use native.Mathlib.Omega.{arith}
 use lib.ListN.{length}
 use Rattle.laws.specs.Below.{either, and-left, and-right, anyBelow, any-none, any-suc, any-is, any-where, countBelow, count-none, count-suc}
-use Rattle.names.specs.Lists.{Equality, among, Distinct, not-so}
+use Rattle.cuts_names.specs.Lists.{Equality, among, Distinct, not-so}
 
 -- The last number's value first.
 unfoldable pub listWhere : {A : Type 0} → (ℕ → Bool) → (ℕ → A) → ℕ → List A

@@ -6,12 +6,12 @@ use native.Mathlib.Omega.{arith}
 use lib.Dec.{ltb}
 use borrow.Author.Tests.{ltb-true, ltb-false, lt-ltb, le-ltb}
 use Rattle.laws.specs.Below.{either}
-use Rattle.edges.specs.Edges.{lowSlot, highSlot}
+use Rattle.piece_edges.specs.Edges.{lowSlot, highSlot}
 use Rattle.piece.specs.Shape.{mark}
-use Rattle.cutting.specs.Theorems.{SamePair}
-use Rattle.names.specs.Names as Names
-use Rattle.names.specs.Names.{Name, mid, mid-sym, mid-injective, mid-not-base}
-use Rattle.names.specs.Base.{Marked, HasCorner, OnFace}
+use Rattle.piece_cut.specs.Theorems.{SamePair}
+use Rattle.cuts_names.specs.Names as Names
+use Rattle.cuts_names.specs.Names.{Name, mid, mid-sym, mid-injective, mid-not-base}
+use Rattle.cuts_names.specs.Base.{Marked, HasCorner, OnFace}
 use Rattle.cuts.specs.Smaller.{by-smaller, one-step}
 use Rattle.cuts.specs.Tables.{Tables, Made, Lawful, HasVertex, FaceHas, nameStep, nameOf, pieceOf}
 

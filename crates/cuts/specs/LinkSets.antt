@@ -9,13 +9,13 @@ use lib.ListN.{length}
 use lib.Dec.{ltb}
 use borrow.Author.Tests.{ltb-false, lt-ltb, le-ltb, not-true}
 use Rattle.laws.specs.Below.{either, and-left, and-right, any-is, any-where, countBelow, count-none, count-suc}
-use Rattle.edges.specs.Edges.{lowSlot, highSlot}
-use Rattle.cutting.specs.Theorems.{slots-small}
-use Rattle.names.specs.Lists.{among, same-tests}
-use Rattle.names.specs.Names.{Name, mid-injective, sameName, name-equality}
-use Rattle.names.specs.Pieces.{Side, Node, kid, pieceAt, makes}
+use Rattle.piece_edges.specs.Edges.{lowSlot, highSlot}
+use Rattle.piece_cut.specs.Theorems.{slots-small}
+use Rattle.cuts_names.specs.Lists.{among, same-tests}
+use Rattle.cuts_names.specs.Names.{Name, mid-injective, sameName, name-equality}
+use Rattle.cuts_names.specs.Pieces.{Side, Node, kid, pieceAt, makes}
 use Rattle.cuts.specs.Sets.{Cuts, There, Leaf, HangsAt}
-use Rattle.names.specs.Macro.{mid-alike, makes-alike}
+use Rattle.cuts_names.specs.Macro.{mid-alike, makes-alike}
 use Rattle.cuts.specs.Least.{sameNode, node-equality}
 use Rattle.cuts.specs.Count.{CutList, LeafList, MadeList, leaves-count}
 use Rattle.cuts.specs.Tables.{Tables, Made, Midpoint, Lawful, HangsIn, nameOf, pieceOf, childOn, nodeOf, cutAt, Represents}

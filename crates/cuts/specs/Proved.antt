@@ -1,9 +1,9 @@
 -- Every statement of `Statements`, proved.
 use mathlib.Core.Path.{sym, _∙_}
 use Rattle.cuts.specs.Statements.{Statements}
-use Rattle.names.specs.Names.{mid-sym, mid-injective, mid-not-base, level-base, level-mid}
-use Rattle.names.specs.Pieces.{child-renamed, piece-root, piece-kid}
-use Rattle.names.specs.Macro.{formal-small, formal-own, formal-unset, formal-new, down-stands, macro-down, down-level, node-valid, node-macro, node-level, corner-level}
+use Rattle.cuts_names.specs.Names.{mid-sym, mid-injective, mid-not-base, level-base, level-mid}
+use Rattle.cuts_names.specs.Pieces.{child-renamed, piece-root, piece-kid}
+use Rattle.cuts_names.specs.Macro.{formal-small, formal-own, formal-unset, formal-new, down-stands, macro-down, down-level, node-valid, node-macro, node-level, corner-level}
 use Rattle.cuts.specs.Depth.{deepest-rests, hanging-below}
 use Rattle.cuts.specs.Grid.{on-grid, corner-built, ends-even, makes-exact}
 use Rattle.cuts.specs.Least.{hanging-is-cut, reached-keeps, reached-least, reached-depth}

@@ -12,12 +12,12 @@ use borrow.Author.Tests.{eqb-true, eqb-false}
 use Rattle.laws.specs.Below.{bit, either, anyBelow, listBelow}
 use Rattle.piece.specs.Shape.{Shape, mark}
 use Rattle.piece.specs.Every.{shaped}
-use Rattle.cutting.specs.Theorems.{Valid}
-use Rattle.names.specs.Names as Names
-use Rattle.names.specs.Lists.{among, passing}
-use Rattle.names.specs.Names.{Name, mid, named}
-use Rattle.names.specs.Pieces.{Piece, Side, low, high, makes, child, Node, pieceDown, pieceAt}
-use Rattle.names.specs.Macro.{computed}
+use Rattle.piece_cut.specs.Theorems.{Valid}
+use Rattle.cuts_names.specs.Names as Names
+use Rattle.cuts_names.specs.Lists.{among, passing}
+use Rattle.cuts_names.specs.Names.{Name, mid, named}
+use Rattle.cuts_names.specs.Pieces.{Piece, Side, low, high, makes, child, Node, pieceDown, pieceAt}
+use Rattle.cuts_names.specs.Macro.{computed}
 use Rattle.cuts.specs.Least.{sameNode}
 use Rattle.cuts.specs.Count.{nodes, madeOf}
 use Rattle.cuts.specs.Fuel.{hangsOn, hangsIn}

@@ -3,8 +3,8 @@ use mathlib.Core.Path.{_≡_}
 use mathlib.Core.Bool.{Bool, true, false}
 use mathlib.Core.List.{List, [], _∷_}
 use Prim.Native.Nat.{ℕ, _<_}
-use Rattle.names.specs.Names.{Name}
-use Rattle.names.specs.Pieces.{Piece, Node, Side, kid, pieceAt, makes, midOf}
+use Rattle.cuts_names.specs.Names.{Name}
+use Rattle.cuts_names.specs.Pieces.{Piece, Node, Side, kid, pieceAt, makes, midOf}
 
 -- A set of cuts of a base of `count` pieces: the nodes that are cut. A node is cut only after its parent.
 pub record Cuts (count : ℕ) : Type 0 where

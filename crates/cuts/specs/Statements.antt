@@ -6,16 +6,16 @@ use mathlib.Core.List.{List, []}
 use Prim.Native.Nat.{ℕ, suc, _+_, _-_, _*_, _/_, _<_, _≤_, max}
 use lib.ListN.{length}
 use Rattle.laws.specs.Below.{countBelow}
-use Rattle.edges.specs.Edges.{lowSlot, highSlot}
+use Rattle.piece_edges.specs.Edges.{lowSlot, highSlot}
 use Rattle.piece.specs.Shape.{Shape, slotA, slotB}
-use Rattle.cutting.specs.Theorems.{Valid, SamePair}
-use Rattle.names.specs.Names as Names
-use Rattle.names.specs.Names.{Name, mid, level}
-use Rattle.names.specs.Pieces.{Piece, Side, low, high, childWith, renamed, makes, child, Node, generation, kid, pieceDown, pieceAt}
+use Rattle.piece_cut.specs.Theorems.{Valid, SamePair}
+use Rattle.cuts_names.specs.Names as Names
+use Rattle.cuts_names.specs.Names.{Name, mid, level}
+use Rattle.cuts_names.specs.Pieces.{Piece, Side, low, high, childWith, renamed, makes, child, Node, generation, kid, pieceDown, pieceAt}
 use Rattle.cuts.specs.Sets.{Cuts, There, Leaf, Within, HangsAt, Hangs, NoneHangs}
-use Rattle.names.specs.Base.{SameCorners, Different, SameFace, markedAt, Marked}
-use Rattle.names.specs.Three.{formal, formalDown, standsFor, Macro}
-use Rattle.names.specs.Macro.{Alike}
+use Rattle.cuts_names.specs.Base.{SameCorners, Different, SameFace, markedAt, Marked}
+use Rattle.cuts_names.specs.Three.{formal, formalDown, standsFor, Macro}
+use Rattle.cuts_names.specs.Macro.{Alike}
 use Rattle.cuts.specs.Depth.{CutsBelow}
 use Rattle.cuts.specs.Grid.{MultipleOf2, Built, lowEnd, highEnd}
 use Rattle.cuts.specs.Least.{OneMore, Reaches}

@@ -7,13 +7,13 @@ use mathlib.Core.List.{[]}
 use Prim.Native.Nat.{ℕ, suc, _≤_, _<_}
 use lib.Dec.{eqb, ltb}
 use Rattle.laws.specs.Below.{anyBelow, firstBelow}
-use Rattle.edges.specs.Edges.{lowSlot, highSlot}
+use Rattle.piece_edges.specs.Edges.{lowSlot, highSlot}
 use Rattle.piece.specs.Shape.{Shape, mark}
-use Rattle.cutting.specs.Cut.{childShape}
-use Rattle.cutting.specs.Theorems.{Valid, SamePair}
-use Rattle.names.specs.Names as Names
-use Rattle.names.specs.Names.{Name, mid}
-use Rattle.names.specs.Pieces.{Piece, Side, low, high, put, Node, kid}
+use Rattle.piece_cut.specs.Cut.{childShape}
+use Rattle.piece_cut.specs.Theorems.{Valid, SamePair}
+use Rattle.cuts_names.specs.Names as Names
+use Rattle.cuts_names.specs.Names.{Name, mid}
+use Rattle.cuts_names.specs.Pieces.{Piece, Side, low, high, put, Node, kid}
 use Rattle.cuts.specs.Sets.{Cuts}
 use Rattle.cuts.specs.Least.{sameNode}
 use Rattle.cuts.specs.Smaller.{goingDown}

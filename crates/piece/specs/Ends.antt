@@ -3,7 +3,7 @@ use mathlib.Core.Bool.{cond}
 use Prim.Native.Nat.{ℕ}
 use lib.ListN.{getD}
 use lib.Dec.{ltb}
-use Rattle.edges.specs.Edges.{lowSlot, highSlot}
+use Rattle.piece_edges.specs.Edges.{lowSlot, highSlot}
 use Rattle.piece.specs.declared.Piece.{Piece}
 use Rattle.piece.specs.declared.Ends.{Ends}
 

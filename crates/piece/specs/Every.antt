@@ -9,7 +9,7 @@ use lib.ListN.{length, getD}
 use lib.Dec.{eqb, ltb}
 use borrow.Author.Tests.{ltb-true, eqb-true}
 use Rattle.laws.specs.Below.{allBelow, all-at, and-left, and-right, or-second, either, listBelow, list-of}
-use Rattle.edges.specs.Edges.{onFace}
+use Rattle.piece_edges.specs.Edges.{onFace}
 use Rattle.piece.specs.Shape.{Shape, mark, unset, typeP, markFits, flagFits, validShape}
 
 -- The shape with these marks.

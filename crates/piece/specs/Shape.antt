@@ -5,7 +5,7 @@ use Prim.Native.Nat.{ℕ}
 use lib.ListN.{getD}
 use lib.Dec.{eqb, ltb}
 use Rattle.laws.specs.Below.{allBelow}
-use Rattle.edges.specs.Edges.{lowSlot, highSlot, edgeBetween, onFace, oppositeOn}
+use Rattle.piece_edges.specs.Edges.{lowSlot, highSlot, edgeBetween, onFace, oppositeOn}
 use Rattle.piece.specs.declared.Piece.{Piece}
 
 -- "A piece carries a refinement edge, one marked edge for each face [..], a flag and a generation." The generation has no part in cutting.

@@ -24,10 +24,10 @@ pub struct Ends {
 pub fn mark_fits(edge: u8, m: u8, i: u8) -> bool
     ensures { λ r. ⌜ r ≡ markFits edge m i ⌝ }
 {
-    if !edges::on_face(m, i) {
+    if !piece_edges::on_face(m, i) {
         return false;
     }
-    if !edges::on_face(edge, i) {
+    if !piece_edges::on_face(edge, i) {
         return true;
     }
     m == edge
@@ -52,8 +52,8 @@ pub fn corner(p: Piece, k: u8) -> u32
 fn lower_end(p: Piece, e: u8) -> u8
     ensures { λ r. ⌜ r ≡ lowerEnd p e ⌝ }
 {
-    let low = edges::low_slot(e);
-    let high = edges::high_slot(e);
+    let low = piece_edges::low_slot(e);
+    let high = piece_edges::high_slot(e);
     if corner(p, low) < corner(p, high) {
         return low;
     }
@@ -63,8 +63,8 @@ fn lower_end(p: Piece, e: u8) -> u8
 fn higher_end(p: Piece, e: u8) -> u8
     ensures { λ r. ⌜ r ≡ higherEnd p e ⌝ }
 {
-    let low = edges::low_slot(e);
-    let high = edges::high_slot(e);
+    let low = piece_edges::low_slot(e);
+    let high = piece_edges::high_slot(e);
     if corner(p, low) < corner(p, high) {
         return high;
     }

@@ -1,6 +1,6 @@
 // Builds K of "A piece worked by hand" and the cube of side 64 as six pieces round the diagonal, checks them and prints their figures.
+use check_refusals::Report;
 use libc::STDOUT_FILENO;
-use refusals::Report;
 
 fn print_figure(name: &[u8], figure: u64) {
     io::write_all(STDOUT_FILENO, name);
@@ -10,9 +10,9 @@ fn print_figure(name: &[u8], figure: u64) {
 // What check says of the first bytes of a buffer.
 fn judged(out: &[u8], length: usize) -> Report {
     if length <= out.len() {
-        judge::check(&out[..length])
+        check_service::check(&out[..length])
     } else {
-        judge::check(out)
+        check_service::check(out)
     }
 }
 
@@ -26,7 +26,7 @@ fn shown(
     length: usize,
 ) {
     io::write_all(STDOUT_FILENO, name);
-    let number = mark::build(job, coordinates, corners, out);
+    let number = build_service::build(job, coordinates, corners, out);
     print_figure(b" build ", number as u64);
     let report = judged(out, length);
     print_figure(b" check ", report.number);
@@ -46,7 +46,7 @@ fn main() {
         &k_coordinates,
         &k_corners,
         &mut out,
-        headers::mesh_length(4, 1),
+        stored_headers::mesh_length(4, 1),
     );
     let cube_coordinates: [i16; 24] = [
         0,
@@ -106,6 +106,6 @@ fn main() {
         &cube_coordinates,
         &cube_corners,
         &mut out,
-        headers::mesh_length(8, 6),
+        stored_headers::mesh_length(8, 6),
     );
 }

@@ -1,15 +1,15 @@
 // The services as C functions: each is one call of a service, and nothing is decided here.
-use refusals::Report;
+use check_refusals::Report;
 ghost use mathlib.Core.Path.{_≡_};
 ghost use lib.ListN.{length};
-ghost use Rattle.refusals.specs.Check.{checkOf};
-ghost use Rattle.mark.specs.Build.{buildNumber, buildBytes};
+ghost use Rattle.check_refusals.specs.Check.{checkOf};
+ghost use Rattle.build_service.specs.Build.{buildNumber, buildBytes};
 
 #[no_mangle]
 pub extern "C" fn tmb_check(mesh: &[u8]) -> Report
     ensures { λ r. ⌜ r ≡ checkOf (now (mesh .entry)) ⌝ }
 {
-    judge::check(mesh)
+    check_service::check(mesh)
 }
 
 #[no_mangle]
@@ -17,5 +17,5 @@ pub extern "C" fn tmb_build(job: u32, coordinates: &[i16], corners: &[u16], out:
     ensures { λ r. ⌜ r ≡ buildNumber job (now (coordinates .entry)) (now (corners .entry)) (length (now (out .entry))) ⌝ }
     ensures { λ _. ⌜ now (out .exit) ≡ buildBytes job (now (coordinates .entry)) (now (corners .entry)) (length (now (out .entry))) ⌝ }
 {
-    mark::build(job, coordinates, corners, out)
+    build_service::build(job, coordinates, corners, out)
 }

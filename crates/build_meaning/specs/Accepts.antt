@@ -1,0 +1,205 @@
+-- Whatever build accepts, check accepts, with as many leaves as pieces and depth 0.
+use mathlib.Core.Path.{_≡_, refl, sym, ap, _∙_, subst}
+use mathlib.Core.Bool.{Bool, true, false, not, cond}
+use mathlib.Core.List.{List}
+use Prim.Native.Nat.{ℕ, zero, suc, _/_, _≤_, _<_}
+use native.Mathlib.Nat.{le-refl}
+use native.Mathlib.Omega.{arith}
+use lib.ListN.{length}
+use lib.IntN.{ℤ}
+use lib.Dec.{ltb}
+use borrow.Author.Tests.{ltb-false}
+use Rattle.laws.specs.Below.{or-left-false, or-right-false, countBelow, count-none, count-suc, greatestBelow, greatest-none, greatest-suc}
+use Rattle.piece.specs.declared.Piece.{Piece}
+use Rattle.piece.specs.Shape.{shapeOf}
+use Rattle.piece_cut.specs.Theorems.{Valid}
+use Rattle.stored.specs.declared.Header.{Header}
+use Rattle.stored.specs.declared.Record.{Record}
+use Rattle.stored.specs.Layout.{none}
+use Rattle.stored.specs.Fitting.{MeshFits}
+use Rattle.stored.specs.Meshes.{mesh-right-length, mesh-right-mark}
+use Rattle.check_refusals.specs.Tables.{Tables, tablesOf, baseVertices, allVertices, baseRecords, allRecords, pieceAt, isLeaf}
+use Rattle.check_refusals.specs.Refusals.{wrongLength, wrongMark, limits, wrongCounts, badVertices, badBaseRecords, badBaseFaces, unusedVertices}
+use Rattle.check_refusals.specs.Check.{firstBroken, checkNumber, leaves, leafGeneration, deepest, sixfold, reportOf, checkOf}
+use Rattle.check_meaning.specs.Tests.{equal}
+use Rattle.check_meaning.specs.Accepted.{RightCounts, RightBaseRecords, RightBaseMarks, RightCuts, Accepted, Made, Leaf}
+use Rattle.check_meaning.specs.Heading.{rule1-holds, rule2-holds, rule3-holds}
+use Rattle.check_meaning.specs.Vertices.{rule4-holds}
+use Rattle.check_meaning.specs.Bases.{rule5-holds}
+use Rattle.check_meaning.specs.Faces.{rule7-holds, rule8-holds}
+use Rattle.check_meaning.specs.Exactly.{accepts-exactly}
+use Rattle.build_marks.specs.Marking.{plainVertex, plainPiece, markedPiece, plainRecord}
+use Rattle.build_service.specs.Build.{notWhole, plainHeader, plainMesh, plainBytes, buildRows, buildNumber}
+use Rattle.build_meaning.specs.Edges.{Different}
+use Rattle.build_meaning.specs.Marks.{marked-valid}
+use Rattle.build_meaning.specs.Written.{Given, CountsFit, written, plain-fits, header-read, vertex-read, record-read}
+
+-- What build has tried where it accepts, in its own order.
+pub record Passed (job : ℕ) (coordinates : List ℤ) (corners : List ℕ) (room : ℕ) : Type 0 where
+  pub whole : notWhole coordinates corners ≡ false
+  pub counts : wrongCounts limits (plainHeader job coordinates corners) ≡ false
+  pub vertices : badVertices (written job coordinates corners) ≡ false
+  pub base-records : badBaseRecords (written job coordinates corners) ≡ false
+  pub faces : badBaseFaces (written job coordinates corners) ≡ false
+  pub uses : unusedVertices (written job coordinates corners) ≡ false
+  pub fits : length (plainBytes job coordinates corners) ≤ room
+
+-- Where 0 is given, the first row is not broken and the later ones give 0.
+not-first : (b : Bool) (n later : ℕ) → cond b (suc n) later ≡ 0 → (b ≡ false) × (later ≡ 0)
+not-first true n later e = absurd (omega arith)
+not-first false n later e = (refl, e)
+
+module _ (job : ℕ) (coordinates : List ℤ) (corners : List ℕ) (room : ℕ) where
+  -- Build gives 0 only where none of its rules is broken.
+  pub passed : buildNumber job coordinates corners room ≡ 0 → Passed job coordinates corners room
+  unfolding buildNumber buildRows firstBroken
+  passed e =
+      let r21 = not-first _ 20 _ e in
+      let r3 = not-first _ 2 _ (r21 .1) in
+      let r4 = not-first _ 3 _ (r3 .1) in
+      let r5 = not-first _ 4 _ (r4 .1) in
+      let r7 = not-first _ 6 _ (r5 .1) in
+      let r8 = not-first _ 7 _ (r7 .1) in
+      let r20 = not-first _ 19 _ (r8 .1) in
+      record {
+        whole = r21 .0;
+        counts = r3 .0;
+        vertices = r4 .0;
+        base-records = r5 .0;
+        faces = r7 .0;
+        uses = r8 .0;
+        fits = ltb-false room (length (plainBytes job coordinates corners)) (r20 .0);
+      }
+
+  counts-fit : Passed job coordinates corners room → CountsFit coordinates corners
+  unfolding wrongCounts plainHeader
+  counts-fit p =
+      let both = or-left-false _ _ (or-left-false _ _ (or-left-false _ _ (or-left-false _ _ (p .counts)))) in
+      record {
+        vertices = let l = ltb-false 1024 (length coordinates / 3) (or-left-false _ _ both) in omega arith;
+        records = let l = ltb-false 3072 (length corners / 4) (or-right-false (ltb 1024 (length coordinates / 3)) _ both) in omega arith;
+      }
+
+-- Where the test passes at each, all are counted.
+count-all : (P : ℕ → Bool) (n : ℕ) → ((k : ℕ) → k < n → P k ≡ true) → countBelow n P ≡ n
+count-all P zero h = count-none P
+count-all P (suc n) h = rw (count-suc, count-all P n (λ k l. h k (omega arith)), h n (le-refl (suc n))) (omega arith)
+
+-- Where f is 0 at each, the greatest is 0.
+greatest-zero : (f : ℕ → ℕ) (n : ℕ) → ((k : ℕ) → k < n → f k ≡ 0) → greatestBelow n f ≡ 0
+greatest-zero f zero h = greatest-none f
+greatest-zero f (suc n) h = rw (greatest-suc, greatest-zero f n (λ k l. h k (omega arith)), h n (le-refl (suc n)))
+
+module _ (job : ℕ) (coordinates : List ℤ) (corners : List ℕ) where
+  abbrev s : List ℕ
+  s = plainBytes job coordinates corners
+
+  abbrev m : Tables
+  m = written job coordinates corners
+
+  module _ (room : ℕ) (g : Given job coordinates corners) (zero : buildNumber job coordinates corners room ≡ 0) where
+    tried : Passed job coordinates corners room
+    tried = passed job coordinates corners room zero
+
+    fit : CountsFit coordinates corners
+    fit = counts-fit job coordinates corners room tried
+
+    -- The mesh that build accepts fits its stored form.
+    pub build-fits : MeshFits (plainMesh job coordinates corners)
+    build-fits = plain-fits job coordinates corners g fit
+
+    -- Check reads the header that build has written.
+    pub build-header : written job coordinates corners .header ≡ plainHeader job coordinates corners
+    build-header = header-read job coordinates corners g fit
+
+    -- So all vertices and all records are base ones.
+    all-base : (allVertices m ≡ baseVertices m) × (allRecords m ≡ baseRecords m)
+    unfolding plainHeader
+    all-base = (ap (λ (h : Header). h .vertices) build-header ∙ sym (ap (λ (h : Header). h .«base_vertices») build-header), ap (λ (h : Header). h .records) build-header ∙ sym (ap (λ (h : Header). h .«base_records») build-header))
+
+    all-plain : allRecords m ≡ length corners / 4
+    unfolding plainHeader
+    all-plain = ap (λ (h : Header). h .records) build-header
+
+    -- The vertices that check reads are the plain ones.
+    pub build-vertex : (v : ℕ) → v < length coordinates / 3 → written job coordinates corners .vertexAt v ≡ plainVertex coordinates v
+    build-vertex = vertex-read job coordinates corners g fit
+
+    -- The records that check reads are the plain ones.
+    pub build-record : (n : ℕ) → n < length corners / 4 → written job coordinates corners .recordAt n ≡ plainRecord coordinates corners n
+    build-record = record-read job coordinates corners g fit
+
+    -- No vertex is made, and no record is cut.
+    none-made : (v : ℕ) → Made m v → ⊥
+    none-made v d = omega (arith, all-base .0)
+
+    all-leaves : (n : ℕ) → n < allRecords m → Leaf m n
+    unfolding plainRecord
+    all-leaves n l = ap (λ (r : Record). r .«first_child») (build-record n (omega (arith, all-plain)))
+
+    -- 3 is build's own, of the header that check reads again.
+    right-counts : RightCounts m
+    unfolding tablesOf
+    right-counts = rule3-holds s .0 (rw build-header (tried .counts))
+
+    right-records : RightBaseRecords m
+    right-records = rule5-holds m .0 (tried .base-records)
+
+    -- 6 follows from 5: build does not have to try it.
+    right-marks : RightBaseMarks m
+    unfolding plainRecord markedPiece
+    right-marks n l =
+        let p = plainPiece corners n in
+        let same : pieceAt m n ≡ markedPiece coordinates p = ap (λ (r : Record). r .piece) (build-record n (omega (arith, all-base .1, all-plain))) in
+        subst (λ (q : Piece). Valid (shapeOf q)) (sym same)
+        (marked-valid coordinates p (subst Different same (right-records n l .different)))
+
+    -- 9 asks nothing: there are only base records, uncut, and no made vertex.
+    right-cuts : RightCuts m
+    right-cuts =
+        record {
+          cuts = λ n l c. absurd (c (all-leaves n l));
+          one-parent = λ c b l. absurd (omega (arith, all-base .1));
+          generations = λ n l. let none : pieceAt m n .generation ≡ 0 = right-records n (omega (arith, all-base .1)) .generation in omega arith;
+          midpoints = λ v d. absurd (none-made v d);
+        }
+
+    -- What build accepts is a mesh as check asks for it.
+    pub build-accepted : Accepted (plainBytes job coordinates corners)
+    unfolding wrongLength wrongMark plainBytes
+    build-accepted =
+        record {
+          length = rule1-holds s .0 (ap not (mesh-right-length (plainMesh job coordinates corners) build-fits));
+          mark = rule2-holds s .0 (ap not (mesh-right-mark (plainMesh job coordinates corners) build-fits));
+          mesh = record {
+            counts = right-counts;
+            vertices = rule4-holds m (right-counts .vertices-within) .0 (tried .vertices);
+            base-records = right-records;
+            base-marks = right-marks;
+            faces = rule7-holds m .0 (tried .faces);
+            uses = rule8-holds m .0 (tried .uses);
+            cuts = right-cuts;
+          };
+          none-hangs = λ n l leaf e k v d h. none-made v d;
+        }
+
+    -- Whatever build accepts, check accepts.
+    pub check-accepts : checkNumber (plainBytes job coordinates corners) ≡ 0
+    check-accepts = accepts-exactly s .1 build-accepted
+
+    -- It has as many leaves as pieces.
+    pub build-leaves : leaves (written job coordinates corners) ≡ length corners / 4
+    unfolding leaves
+    build-leaves = count-all (isLeaf m) (allRecords m) (λ n l. equal (m .recordAt n .«first_child») none .1 (all-leaves n l)) ∙ all-plain
+
+    -- Its depth is 0.
+    pub build-depth : deepest (written job coordinates corners) ≡ 0
+    unfolding deepest leafGeneration
+    build-depth =
+        greatest-zero (leafGeneration m) (allRecords m)
+        (λ n l. rw (equal (m .recordAt n .«first_child») none .1 (all-leaves n l)) (right-records n (omega (arith, all-base .1)) .generation))
+
+    -- What check returns of it, all six figures.
+    pub check-reports : checkOf (plainBytes job coordinates corners) ≡ record { number = 0; leaves = length corners / 4; deepest = 0; sixfold = sixfold (written job coordinates corners); «record» = 0; edge = 0 }
+    unfolding checkOf reportOf
+    check-reports = rw (check-accepts, build-leaves, build-depth)

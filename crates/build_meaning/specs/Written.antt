@@ -1,0 +1,124 @@
+-- What build writes keeps every number of the plain mesh: each fits its stored width, and check reads it again.
+use mathlib.Core.Path.{_≡_, refl, sym, _∙_, subst}
+use mathlib.Core.Bool.{Bool, true}
+use mathlib.Core.List.{List}
+use Prim.Native.Nat.{ℕ, zero, suc, _+_, _*_, _/_, _≤_, _<_}
+use native.Mathlib.Omega.{arith}
+use lib.ListN.{length, getD}
+use lib.IntN.{ℤ, pos}
+use Rattle.laws.specs.Below.{list-length, list-at}
+use Rattle.laws.specs.Lists.{bytes-none, bytes-cons}
+use Rattle.piece_edges.specs.Edges.{onFace}
+use Rattle.piece.specs.declared.Piece.{Piece}
+use Rattle.stored.specs.Layout.{meshLength}
+use Rattle.stored.specs.Fitting.{U16, U32, VertexFits, RecordFits, MeshFits}
+use Rattle.stored.specs.Meshes.{mesh-header, mesh-vertex, mesh-record, mesh-length}
+use Rattle.check_refusals.specs.Tables.{Tables, tablesOf}
+use Rattle.build_marks.specs.Marking.{placeFor, plainPlace, plainVertex, plainPiece, firstRanked, markedPiece, plainRecord}
+use Rattle.build_service.specs.Build.{plainHeader, plainMesh, plainBytes}
+use Rattle.build_meaning.specs.First.{first-at-most}
+
+-- The job is a u32, every coordinate's place is a u16, as that of an i16 is, and the corners are u16.
+pub record Given (job : ℕ) (coordinates : List ℤ) (corners : List ℕ) : Type 0 where
+  pub fits-job : U32 job
+  pub each-coordinate : (k : ℕ) → k < length coordinates → U16 (placeFor (getD coordinates k (pos 0)))
+  pub each-corner : (k : ℕ) → k < length corners → U16 (getD corners k 0)
+
+-- The counts fit their u16 of the header.
+pub record CountsFit (coordinates : List ℤ) (corners : List ℕ) : Type 0 where
+  pub vertices : U16 (length coordinates / 3)
+  pub records : U16 (length corners / 4)
+
+-- The tables that check reads from what build writes.
+abbrev pub written : ℕ → List ℤ → List ℕ → Tables
+written job coordinates corners = tablesOf (plainBytes job coordinates corners)
+
+-- A first-ranked edge is stored in a byte.
+ranked-byte : (coordinates : List ℤ) (p : Piece) (among : ℕ → Bool) → firstRanked coordinates p among < 256
+unfolding firstRanked
+ranked-byte coordinates p among = let l : firstRanked coordinates p among ≤ 6 = first-at-most _ 6 in omega arith
+
+module _ (job : ℕ) (coordinates : List ℤ) (corners : List ℕ) (g : Given job coordinates corners) (c : CountsFit coordinates corners) where
+  vertex-fits : (v : ℕ) → v < length coordinates / 3 → VertexFits (plainVertex coordinates v)
+  unfolding plainVertex plainPlace
+  vertex-fits v l =
+      record {
+        x = g .each-coordinate (3 * v) (omega arith);
+        y = g .each-coordinate (3 * v + 1) (omega arith);
+        z = g .each-coordinate (3 * v + 2) (omega arith);
+        p = omega arith;
+        q = omega arith;
+      }
+
+  corner-fits : (n : ℕ) → n < length corners / 4 → (k : ℕ) → U16 (getD (plainRecord coordinates corners n .piece .corners) k 0)
+  unfolding plainRecord markedPiece plainPiece
+  corner-fits n l zero = g .each-corner (4 * n) (omega arith)
+  corner-fits n l (suc zero) = g .each-corner (4 * n + 1) (omega arith)
+  corner-fits n l (suc (suc zero)) = g .each-corner (4 * n + 2) (omega arith)
+  corner-fits n l (suc (suc (suc zero))) = g .each-corner (4 * n + 3) (omega arith)
+  corner-fits n l (suc (suc (suc (suc k)))) = omega arith
+
+  record-fits : (n : ℕ) → n < length corners / 4 → RecordFits (plainRecord coordinates corners n)
+  unfolding plainRecord markedPiece plainPiece
+  record-fits n l =
+      let p = plainPiece corners n in
+      let byte : (among : ℕ → Bool) → firstRanked coordinates p among < 256 = ranked-byte coordinates p in
+      record {
+        fourCorners = refl;
+        corners = corner-fits n l;
+        edge = byte (λ e. true);
+        fourMarks = refl;
+        marks = bytes-cons (byte (λ e. onFace e 0)) (bytes-cons (byte (λ e. onFace e 1)) (bytes-cons (byte (λ e. onFace e 2)) (bytes-cons (byte (λ e. onFace e 3)) bytes-none)));
+        flag = omega arith;
+        generation = omega arith;
+        firstChild = omega arith;
+      }
+
+  -- Every number of the plain mesh fits its stored width.
+  pub plain-fits : MeshFits (plainMesh job coordinates corners)
+  unfolding plainMesh plainHeader
+  plain-fits =
+      let vertices = list-length (plainVertex coordinates) (length coordinates / 3) in
+      let records = list-length (plainRecord coordinates corners) (length corners / 4) in
+      record {
+        header = record {
+          job = g .fits-job;
+          round = omega arith;
+          baseVertices = c .vertices;
+          vertices = c .vertices;
+          baseRecords = c .records;
+          records = c .records;
+        };
+        vertexCount = vertices;
+        vertices = λ k d l. let b : k < length coordinates / 3 = omega arith in
+            subst VertexFits (sym (list-at (plainVertex coordinates) (length coordinates / 3) k d b)) (vertex-fits k b);
+        recordCount = records;
+        records = λ k d l. let b : k < length corners / 4 = omega arith in
+            subst RecordFits (sym (list-at (plainRecord coordinates corners) (length corners / 4) k d b)) (record-fits k b);
+      }
+
+  -- The bytes are "20 + 10·vertices + 17·records".
+  pub plain-length : length (plainBytes job coordinates corners) ≡ meshLength (length coordinates / 3) (length corners / 4)
+  unfolding plainBytes plainMesh plainHeader
+  plain-length = mesh-length (plainMesh job coordinates corners) plain-fits
+
+  -- Check reads the plain header.
+  pub header-read : written job coordinates corners .header ≡ plainHeader job coordinates corners
+  unfolding tablesOf plainBytes plainMesh
+  header-read = mesh-header (plainMesh job coordinates corners) plain-fits
+
+  -- Check reads the plain vertices.
+  pub vertex-read : (v : ℕ) → v < length coordinates / 3 → written job coordinates corners .vertexAt v ≡ plainVertex coordinates v
+  unfolding tablesOf plainBytes plainMesh
+  vertex-read v l =
+      let d = plainVertex coordinates v in
+      mesh-vertex (plainMesh job coordinates corners) plain-fits v d (rw list-length l)
+      ∙ list-at (plainVertex coordinates) (length coordinates / 3) v d l
+
+  -- Check reads the plain records.
+  pub record-read : (n : ℕ) → n < length corners / 4 → written job coordinates corners .recordAt n ≡ plainRecord coordinates corners n
+  unfolding tablesOf plainBytes plainMesh
+  record-read n l =
+      let d = plainRecord coordinates corners n in
+      mesh-record (plainMesh job coordinates corners) plain-fits n d (rw list-length l)
+      ∙ list-at (plainRecord coordinates corners) (length corners / 4) n d l

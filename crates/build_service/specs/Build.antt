@@ -1,0 +1,66 @@
+-- What build answers, for every job number, all coordinates and corners, and every length of the output buffer.
+use mathlib.Core.Bool.{Bool, not, cond, _||_}
+use mathlib.Core.List.{List, [], _∷_, _++_}
+use Prim.Native.Nat.{ℕ, _-_, _/_, _%_}
+use lib.ListN.{length, replicate}
+use lib.IntN.{ℤ}
+use lib.Dec.{eqb, ltb}
+use Rattle.laws.specs.Below.{listBelow}
+use Rattle.stored.specs.declared.Header.{Header}
+use Rattle.stored.specs.Layout.{Mesh, meshBytes}
+use Rattle.check_refusals.specs.Tables.{tablesOf}
+use Rattle.check_refusals.specs.Refusals.{limits, wrongCounts, badVertices, badBaseRecords, badBaseFaces, unusedVertices}
+use Rattle.check_refusals.specs.Check.{Row, row, firstBroken}
+use Rattle.build_marks.specs.Marking.{plainVertex, plainRecord}
+
+-- 21: "coordinates not three a vertex, or corners not four a piece"
+unfoldable pub notWhole : List ℤ → List ℕ → Bool
+notWhole coordinates corners = not (eqb (length coordinates % 3) 0) || not (eqb (length corners % 4) 0)
+
+-- "Counts are natural numbers": as many vertices and records as the lists have. "The round 0."
+unfoldable pub plainHeader : ℕ → List ℤ → List ℕ → Header
+plainHeader job coordinates corners =
+    record {
+      job = job;
+      round = 0;
+      «base_vertices» = length coordinates / 3;
+      vertices = length coordinates / 3;
+      «base_records» = length corners / 4;
+      records = length corners / 4;
+    }
+
+-- The mesh that is stored.
+unfoldable pub plainMesh : ℕ → List ℤ → List ℕ → Mesh
+plainMesh job coordinates corners =
+    record {
+      header = plainHeader job coordinates corners;
+      vertices = listBelow (length coordinates / 3) (plainVertex coordinates);
+      records = listBelow (length corners / 4) (plainRecord coordinates corners);
+    }
+
+unfoldable pub plainBytes : ℕ → List ℤ → List ℕ → List ℕ
+plainBytes job coordinates corners = meshBytes (plainMesh job coordinates corners)
+
+-- "Build tries 21, then 3, 4, 5, 7, 8, 20": 4, 5, 7 and 8 are check's own, of what will be written.
+unfoldable pub buildRows : ℕ → List ℤ → List ℕ → ℕ → List Row
+buildRows job coordinates corners room =
+    let m = tablesOf (plainBytes job coordinates corners) in
+    row 21 (notWhole coordinates corners)
+    ∷ row 3 (wrongCounts limits (plainHeader job coordinates corners))
+    ∷ row 4 (badVertices m)
+    ∷ row 5 (badBaseRecords m)
+    ∷ row 7 (badBaseFaces m)
+    ∷ row 8 (unusedVertices m)
+    ∷ row 20 (ltb room (length (plainBytes job coordinates corners)))
+    ∷ []
+
+-- "The first rule broken"; 0 on acceptance.
+unfoldable pub buildNumber : ℕ → List ℤ → List ℕ → ℕ → ℕ
+buildNumber job coordinates corners room = firstBroken (buildRows job coordinates corners room)
+
+-- "After a refusal the output buffer is zero throughout; after acceptance it is zero past the result."
+unfoldable pub buildBytes : ℕ → List ℤ → List ℕ → ℕ → List ℕ
+buildBytes job coordinates corners room =
+    let bytes = plainBytes job coordinates corners in
+    let stored = bytes ++ replicate (room - length bytes) 0 in
+    cond (eqb (buildNumber job coordinates corners room) 0) stored (replicate room 0)

@@ -1,0 +1,53 @@
+-- How large the sum of the leaves' sixfold volumes can be, and the sum of a mesh within the limits.
+use mathlib.Core.Path.{_≡_}
+use mathlib.Core.Bool.{Bool, true, false, cond}
+use Prim.Native.Nat.{ℕ, _*_, _^_, _≤_}
+use native.Mathlib.Omega.{arith}
+use mathlib.Core.List.{List}
+use lib.Dec.{ltb}
+use borrow.Author.Tests.{le-ltb}
+use Rattle.piece.specs.declared.Piece.{Piece}
+use Rattle.piece.specs.Ends.{cornerAt}
+use Rattle.grid.specs.declared.Place.{Place}
+use Rattle.grid.specs.PlaceLaws.{Held}
+use Rattle.grid_volume.specs.Volume.{sixfoldOf, differencesOf}
+use Rattle.grid_volume.specs.VolumeLaws.{sixfold-within}
+use Rattle.stored.specs.declared.Header.{Header}
+use Rattle.stored.specs.Layout.{vertexIn, vertexFrom}
+use Rattle.check_refusals.specs.Tables.{Tables, tables, allRecords, isLeaf, pieceAt, sixfoldAt}
+use Rattle.check_refusals.specs.Refusals.{limits}
+use Rattle.check_refusals.specs.Check.{leafSixfold, sixfold}
+
+-- Every place that is read is a u16.
+place-held : (t : List ℕ) (v : ℕ) → Held (vertexIn t v .place)
+unfolding vertexIn vertexFrom
+place-held t v = record { x = omega arith; y = omega arith; z = omega arith }
+
+abbrev pub most : ℕ
+most = 6 * 65535 ^ 3
+
+-- A piece's sixfold volume, whatever its corners.
+pub sixfold-at-most : (h : Header) (vertices records : List ℕ) (p : Piece) → sixfoldAt (tables h vertices records) p ≤ most
+unfolding sixfoldAt sixfoldOf differencesOf
+sixfold-at-most h vertices records p =
+    let at : (k : ℕ) → Place = λ k. vertexIn vertices (cornerAt p k) .place in
+    sixfold-within (at 0) (at 1) (at 2) (at 3) (place-held vertices (cornerAt p 0)) (place-held vertices (cornerAt p 1)) (place-held vertices (cornerAt p 2)) (place-held vertices (cornerAt p 3))
+
+-- A leaf's sixfold volume, and what is no leaf's.
+pub leaf-at-most : (h : Header) (vertices records : List ℕ) (n : ℕ) → leafSixfold (tables h vertices records) n ≤ most
+unfolding leafSixfold
+leaf-at-most h vertices records n =
+    let m = tables h vertices records in
+    go (isLeaf m n) (sixfoldAt m (pieceAt m n)) (sixfold-at-most h vertices records (pieceAt m n))
+  where
+    go : (b : Bool) (x : ℕ) → x ≤ most → cond b x 0 ≤ most
+    go true x l = l
+    go false x l = omega arith
+
+-- "At most [..] 3,072 records": the sum over so many, and 0 for a count that refusal 3 refuses.
+unfoldable pub sixfoldWithin : Tables → ℕ
+sixfoldWithin m = cond (ltb (limits .records) (allRecords m)) 0 (sixfold m)
+
+pub within-is : (m : Tables) → allRecords m ≤ limits .records → sixfoldWithin m ≡ sixfold m
+unfolding sixfoldWithin
+within-is m l = rw (le-ltb (limits .records) (allRecords m) l)

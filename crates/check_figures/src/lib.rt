@@ -1,0 +1,92 @@
+// Leaves, greatest leaf generation and summed sixfold volume of the leaves.
+use stored::Header;
+ghost use mathlib.Core.Path.{_≡_};
+ghost use Prim.Native.Nat.{max, _≤_};
+ghost use Rattle.laws.specs.Below.{bit};
+ghost use Rattle.check_refusals.specs.Tables.{tables};
+ghost use Rattle.check_figures.specs.Bounds.{sixfoldWithin};
+ghost use Rattle.check_refusals.specs.Check.{leaves, leafGeneration, deepest, leafSixfold, sixfold};
+
+fn one_if(b: bool) -> u64
+    ensures { λ r. ⌜ r ≡ bit b ⌝ }
+{
+    if b { 1 } else { 0 }
+}
+
+pub fn leaves_of(h: Header, vertices: &[u8], records: &[u8]) -> u64
+    ensures { λ r. ⌜ r ≡ leaves (tables h (now (vertices .entry)) (now (records .entry))) ⌝ }
+{
+    let count = h.records as usize;
+    let mut n: usize = 0;
+    let mut total: u64 = 0;
+    while n < count {
+        total += one_if(check_refusals::is_leaf(h, vertices, records, n));
+        n += 1;
+    }
+    total
+}
+
+fn leaf_generation(h: Header, vertices: &[u8], records: &[u8], n: usize) -> u64
+    ensures { λ r. ⌜ r ≡ leafGeneration (tables h (now (vertices .entry)) (now (records .entry))) n ⌝ }
+{
+    if check_refusals::is_leaf(h, vertices, records, n) {
+        let record = stored_entries::record_in(records, n);
+        let p = record.piece;
+        return p.generation as u64;
+    }
+    0
+}
+
+fn greater(a: u64, b: u64) -> u64
+    ensures { λ r. ⌜ r ≡ max a b ⌝ }
+{
+    if a < b { b } else { a }
+}
+
+pub fn deepest_of(h: Header, vertices: &[u8], records: &[u8]) -> u64
+    ensures { λ r. ⌜ r ≡ deepest (tables h (now (vertices .entry)) (now (records .entry))) ⌝ }
+{
+    let count = h.records as usize;
+    let mut n: usize = 0;
+    let mut found: u64 = 0;
+    while n < count {
+        found = greater(found, leaf_generation(h, vertices, records, n));
+        n += 1;
+    }
+    found
+}
+
+fn leaf_sixfold(h: Header, vertices: &[u8], records: &[u8], n: usize) -> u64
+    ensures { λ r. ⌜ r ≡ leafSixfold (tables h (now (vertices .entry)) (now (records .entry))) n ⌝ }
+{
+    if check_refusals::is_leaf(h, vertices, records, n) {
+        let record = stored_entries::record_in(records, n);
+        let p = record.piece;
+        return check_refusals::sixfold_of(h, vertices, records, p);
+    }
+    0
+}
+
+fn sixfold_sum(h: Header, vertices: &[u8], records: &[u8]) -> u64
+    requires { ⌜ h .records ≤ 3072 ⌝ }
+    ensures { λ r. ⌜ r ≡ sixfold (tables h (now (vertices .entry)) (now (records .entry))) ⌝ }
+{
+    let count = h.records as usize;
+    let mut n: usize = 0;
+    let mut total: u64 = 0;
+    while n < count {
+        total += leaf_sixfold(h, vertices, records, n);
+        n += 1;
+    }
+    total
+}
+
+// A u64 holds the sum over as many records as a mesh may have; more are refused with 3.
+pub fn sixfold_within(h: Header, vertices: &[u8], records: &[u8]) -> u64
+    ensures { λ r. ⌜ r ≡ sixfoldWithin (tables h (now (vertices .entry)) (now (records .entry))) ⌝ }
+{
+    if 3072 < h.records {
+        return 0;
+    }
+    sixfold_sum(h, vertices, records)
+}

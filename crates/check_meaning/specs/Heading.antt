@@ -1,0 +1,52 @@
+-- Rules 1 to 3: the bytes' length, the mark and the counts.
+use mathlib.Core.List.{List}
+use Prim.Native.Nat.{ℕ}
+use lib.ListN.{length}
+use Rattle.stored.specs.Layout.{headerWidth, meshLength, byteAt, u16At, allVertices, allRecords, marked, rightMark, rightLength, headerOf}
+use Rattle.check_refusals.specs.Tables.{tablesOf}
+use Rattle.check_refusals.specs.Refusals.{wrongLength, wrongMark, limits, wrongCounts}
+use Rattle.check_meaning.specs.Tests.{Fails, reads, equal, at-most, not-below, not-fails, and-passes, or-fails}
+use Rattle.check_meaning.specs.Accepted.{RightLength, RightMark, RightCounts}
+
+pub rule1-holds : (s : List ℕ) → Fails (wrongLength s) (RightLength s)
+unfolding wrongLength rightLength tablesOf headerOf
+rule1-holds s =
+    reads (not-fails (and-passes (at-most headerWidth (length s)) (equal (length s) (meshLength (allVertices s) (allRecords s)))))
+    (λ h. record { header = h .0; exact = h .1 })
+    (λ r. (r .header, r .exact))
+
+pub rule2-holds : (s : List ℕ) → Fails (wrongMark s) (RightMark s)
+unfolding wrongMark rightMark marked
+rule2-holds s =
+    reads
+    (not-fails
+    (and-passes
+    (and-passes (and-passes (and-passes (equal (byteAt s 0) 84) (equal (byteAt s 1) 77)) (equal (byteAt s 2) 66)) (equal (u16At s 3) 1))
+    (equal (byteAt s 19) 0)))
+    (λ h. record { T = h .0 .0 .0 .0; M = h .0 .0 .0 .1; B = h .0 .0 .1; version = h .0 .1; zero-byte = h .1 })
+    (λ r. ((((r .T, r .M), r .B), r .version), r .zero-byte))
+
+pub rule3-holds : (s : List ℕ) → Fails (wrongCounts limits (headerOf s)) (RightCounts (tablesOf s))
+unfolding wrongCounts tablesOf
+rule3-holds s =
+    let h = headerOf s in
+    reads
+    (or-fails
+    (or-fails
+    (or-fails
+    (or-fails
+    (or-fails (not-below (limits .vertices) (h .vertices)) (not-below (limits .records) (h .records)))
+    (not-below (h .«base_vertices») 4))
+    (not-below (h .«base_records») 1))
+    (not-below (h .vertices) (h .«base_vertices»)))
+    (not-below (h .records) (h .«base_records»)))
+    (λ h.
+    record {
+      vertices = h .0 .0 .0 .0 .0;
+      records = h .0 .0 .0 .0 .1;
+      base-vertices = h .0 .0 .0 .1;
+      base-records = h .0 .0 .1;
+      vertices-within = h .0 .1;
+      records-within = h .1;
+    })
+    (λ r. (((((r .vertices, r .records), r .base-vertices), r .base-records), r .vertices-within), r .records-within))

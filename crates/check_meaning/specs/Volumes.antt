@@ -1,0 +1,154 @@
+-- Cutting halves volumes: no record is flat, and the leaves' sixfold volumes add up to those of the base records.
+use mathlib.Core.Path.{_≡_, refl, sym, ap, ap₂, _∙_, subst, fun-ext}
+use mathlib.Core.Bool.{Bool, true, false, cond, _||_}
+use mathlib.Core.Logic.{_≢_, ⊎-elim}
+use Prim.Native.Nat.{ℕ, _+_, _*_, _<_}
+use native.Mathlib.Omega.{arith}
+use lib.Dec.{eqb, ltb}
+use lib.IntN.{ℤ, pos, negℤ, natAbs, _+ℤ_, +ℤ-invr}
+use borrow.Author.Tests.{ltb-true, ltb-false, eqb-true, eqb-false, ne-eqb}
+use Rattle.laws.specs.Below.{sumBelow, sum-same, either}
+use Rattle.algebra.specs.Multiple.{halves}
+use Rattle.piece.specs.declared.Piece.{Piece}
+use Rattle.piece.specs.Ends.{cornerAt, lowerEnd, higherEnd, endsOf}
+use Rattle.piece_cut.specs.Cut.{childOf, cutOf}
+use Rattle.grid.specs.Places.{Point}
+use Rattle.grid_volume.specs.Volume.{determinantOf, differencesOf, sixfoldOf}
+use Rattle.grid_volume.specs.Halving.{determinant-turned}
+use Rattle.grid.specs.Corners.{putAt, exchanged, Midpoint}
+use Rattle.grid_volume.specs.VolumeTheorems.{half-sixfold, sixfold-kept}
+use Rattle.stored.specs.Layout.{none}
+use Rattle.check_refusals.specs.Tables.{Tables, baseRecords, allRecords, pieceAt, isLeaf, cornerPoint, sixfoldAt}
+use Rattle.check_refusals.specs.Refusals.{isChildOf}
+use Rattle.check_refusals.specs.Check.{leafSixfold, sixfold}
+use Rattle.check_meaning.specs.Tests.{fails-unless}
+use Rattle.check_meaning.specs.Accepted.{RightMesh, RightCut, firstChild, pointAt}
+use Rattle.check_meaning.specs.Bases.{slots-apart, valid-is}
+use Rattle.check_meaning.specs.Cuts.{Four, child-of}
+use Rattle.check_meaning.specs.Descent.{ends-are, lower-is-end, higher-is-end, child-corner, by-descent, every-sound, base-no-child}
+use Rattle.check_meaning.specs.Sums.{sum-plus, sum-of-none, sum-swap, sum-of-one, sum-of-part, sum-at, sum-parts}
+
+-- The child's corners are the parent's with w's place in slot k.
+child-sixfold : (m : Tables) (p : Piece) (w k : ℕ) → Four p → k < 4 → sixfoldAt m (childOf p w k) ≡ sixfoldOf (putAt k (pointAt m w) (cornerPoint m p))
+unfolding sixfoldAt
+child-sixfold m p w k f l =
+    ap sixfoldOf (fun-ext λ j. ap (pointAt m) (child-corner p w k f l j) ∙ picked (eqb j k) w (cornerAt p j))
+  where
+    picked : (b : Bool) (x y : ℕ) → pointAt m (cond b x y) ≡ cond b (pointAt m x) (pointAt m y)
+    picked true x y = refl
+    picked false x y = refl
+
+ends-apart : (p : Piece) (e : ℕ) → e < 6 → lowerEnd p e ≢ higherEnd p e
+ends-apart p e l q =
+    slots-apart e l (⊎-elim (λ h. h .0 ∙ q ∙ sym (h .1)) (λ h. h .1 ∙ sym q ∙ sym (h .0)) (ends-are p e))
+
+-- Two corners at one place leave no volume: their exchange turns the sign of the determinant and changes nothing.
+flat : (corner : ℕ → Point) (i j : ℕ) → i < 4 → j < 4 → i ≢ j → corner i ≡ corner j → sixfoldOf corner ≡ 0
+unfolding sixfoldOf
+flat corner i j hi hj apart same =
+    let z = determinantOf (differencesOf corner) in
+    let turned : z ≡ negℤ z = ap (λ (f : ℕ → Point). determinantOf (differencesOf f)) (sym (fun-ext λ k. stays k)) ∙ determinant-turned corner i j hi hj apart in
+    ap natAbs (halves z (pos 0) (ap (λ (x : ℤ). z +ℤ x) turned ∙ +ℤ-invr z))
+  where
+    stays : (k : ℕ) → exchanged i j corner k ≡ corner k
+    stays k =
+        ⊎-elim
+        (λ t. rw t (sym same ∙ ap corner (sym (eqb-true k i t))))
+        (λ f. rw f (⊎-elim (λ t. rw t (same ∙ ap corner (sym (eqb-true k j t)))) (λ g. rw g) (either (eqb k j))))
+        (either (eqb k i))
+
+-- The sixfold volume of record n.
+abbrev pub volume : Tables → ℕ → ℕ
+volume m n = sixfoldAt m (pieceAt m n)
+
+-- The volume of c, at each record of which it is a child.
+abbrev share : Tables → ℕ → ℕ → ℕ
+share m c n = cond (isChildOf m c n) (volume m c) 0
+
+module _ (m : Tables) (a : RightMesh m) (four : (n : ℕ) → Four (pieceAt m n)) where
+  -- Each child of a cut record has half its volume.
+  pub children-halve : (n : ℕ) → n < allRecords m → RightCut m n → (volume m (firstChild m n) * 2 ≡ volume m n) × (volume m (firstChild m n + 1) * 2 ≡ volume m n)
+  unfolding cutOf endsOf sixfoldAt
+  children-halve n l r =
+      let p = pieceAt m n in
+      let u = lowerEnd p (p .edge) in
+      let v = higherEnd p (p .edge) in
+      let corner = cornerPoint m p in
+      let sound = every-sound m a four n l in
+      let lu = lower-is-end p (p .edge) .0 in
+      let lv = higher-is-end p (p .edge) .0 in
+      let apart = ends-apart p (p .edge) (valid-is p .0 (sound .valid .valid) .0) in
+      let middle : Midpoint (pointAt m (r .w)) (corner u) (corner v) = rw (r .parents .p, r .parents .q) at (a .vertices .made (r .w) (r .made) .halfway) in
+      let kept = sixfold-kept corner (pointAt m (r .w)) u v lu lv apart middle in
+      let half = half-sixfold corner (pointAt m (r .w)) u v lu lv apart middle in
+      let first = ap (sixfoldAt m) (r .first) ∙ child-sixfold m p (r .w) v (sound .four) lv in
+      let second = ap (sixfoldAt m) (r .second) ∙ child-sixfold m p (r .w) u (sound .four) lu in
+      (omega (arith, kept, half, first, second), omega (arith, half, second))
+
+  -- Every record has a volume: the base has, and half of one is one.
+  pub every-volume : (n : ℕ) → n < allRecords m → volume m n ≢ 0
+  every-volume =
+      by-descent m (a .cuts) (λ n. volume m n ≢ 0) (λ n l. a .base-records n l .volume)
+      (λ c l d h none.
+      let (first, second) = children-halve (d .parent) (omega (arith, d .before)) (d .cut) in
+      let Half : ℕ → Type 0 = λ k. volume m k * 2 ≡ volume m (d .parent) in
+      let here : Half c = ⊎-elim (λ e. subst Half e first) (λ e. subst Half e second) (d .child .is) in
+      h (omega (arith, here, none)))
+
+  -- So every record has four different corners.
+  pub every-different : (n : ℕ) → n < allRecords m → (j k : ℕ) → j < 4 → k < 4 → cornerAt (pieceAt m n) j ≡ cornerAt (pieceAt m n) k → j ≡ k
+  unfolding sixfoldAt
+  every-different n l j k lj lk same =
+      ⊎-elim (λ t. eqb-true j k t)
+      (λ f. absurd (every-volume n l (flat (cornerPoint m (pieceAt m n)) j k lj lk (eqb-false j k f) (ap (pointAt m) same))))
+      (either (eqb j k))
+
+  -- A record of the base is no child; any other is the child of exactly one.
+  by-parents : (c : ℕ) → c < allRecords m → sumBelow (allRecords m) (share m c) ≡ cond (ltb c (baseRecords m)) 0 (volume m c)
+  by-parents c l =
+      ⊎-elim
+      (λ t. rw t (sum-of-none (allRecords m) (share m c) (λ n b. rw (fails-unless (child-of m c n) .1 (base-no-child m a four c n (ltb-true c (baseRecords m) t) b)))))
+      (λ f.
+      let o = a .cuts .one-parent c (ltb-false c (baseRecords m) f) l in
+      rw f
+      (sum-of-one (allRecords m) (o .it) (share m c) (o .there) (λ n b other. rw (fails-unless (child-of m c n) .1 (λ h. other (o .only n b h))))
+      ∙ rw (child-of m c (o .it) .1 (o .holds))))
+      (either (ltb c (baseRecords m)))
+
+  -- A leaf has no child; a cut record's two have its volume together.
+  by-children : (n : ℕ) → n < allRecords m → sumBelow (allRecords m) (λ c. share m c n) ≡ cond (isLeaf m n) 0 (volume m n)
+  unfolding isChildOf
+  by-children n l =
+      ⊎-elim
+      (λ t. sum-of-none (allRecords m) (λ c. share m c n) (λ c b. rw t) ∙ rw t)
+      (λ f.
+      let k = firstChild m n in
+      let r = a .cuts .cuts n l (eqb-false k none f) in
+      let both : volume m k + volume m (k + 1) ≡ volume m n = omega (arith, children-halve n l r .0, children-halve n l r .1) in
+      sum-same (allRecords m) (λ c. share m c n) (λ c. cond (eqb k c) (volume m c) 0 + cond (eqb (k + 1) c) (volume m c) 0) (λ c b. rw f (either-child k c (volume m c)))
+      ∙ sum-plus (allRecords m) (λ c. cond (eqb k c) (volume m c) 0) (λ c. cond (eqb (k + 1) c) (volume m c) 0)
+      ∙ ap₂ _+_ (sum-at (allRecords m) k (volume m) (omega (arith, r .there))) (sum-at (allRecords m) (k + 1) (volume m) (r .there))
+      ∙ both
+      ∙ rw f)
+      (either (isLeaf m n))
+    where
+      either-child : (k c v : ℕ) → cond (eqb k c || eqb (k + 1) c) v 0 ≡ cond (eqb k c) v 0 + cond (eqb (k + 1) c) v 0
+      either-child k c v =
+          ⊎-elim
+          (λ t. let same : k ≡ c = eqb-true k c t in rw (t, ne-eqb (k + 1) c (omega arith)) (omega arith))
+          (λ f. rw f (omega arith))
+          (either (eqb k c))
+
+  -- The summed sixfold volume of the leaves, which check returns, is that of the base records.
+  pub volume-kept : sixfold m ≡ sumBelow (baseRecords m) (volume m)
+  unfolding sixfold leafSixfold
+  volume-kept =
+      let leaves : sixfold m ≡ sumBelow (allRecords m) (λ n. cond (isLeaf m n) (volume m n) 0) = refl in
+      let by-leaf = sum-parts (allRecords m) (isLeaf m) (volume m) in
+      let by-base = sum-parts (allRecords m) (λ c. ltb c (baseRecords m)) (volume m) in
+      let base = sum-of-part (allRecords m) (baseRecords m) (volume m) (a .counts .records-within) in
+      let made : sumBelow (allRecords m) (λ c. cond (ltb c (baseRecords m)) 0 (volume m c)) ≡ sumBelow (allRecords m) (λ n. cond (isLeaf m n) 0 (volume m n)) =
+      sym (sum-same (allRecords m) (λ c. sumBelow (allRecords m) (share m c)) (λ c. cond (ltb c (baseRecords m)) 0 (volume m c)) by-parents)
+      ∙ sum-swap (allRecords m) (allRecords m) (share m)
+      ∙ sum-same (allRecords m) (λ n. sumBelow (allRecords m) (λ c. share m c n)) (λ n. cond (isLeaf m n) 0 (volume m n)) by-children in
+      omega arith

@@ -1,0 +1,34 @@
+// The vertex with a given parent pair: the one search that rules 4, 9 and 10 and every cut share.
+use piece::Ends;
+use stored::Header;
+ghost use mathlib.Core.Path.{_≡_};
+ghost use Rattle.check_refusals.specs.Tables.{tables, hasParents, vertexWith};
+
+// Whether vertex v is made and has these parents.
+pub fn has_parents(h: Header, vertices: &[u8], records: &[u8], ends: Ends, v: usize) -> bool
+    ensures { λ r. ⌜ r ≡ hasParents (tables h (now (vertices .entry)) (now (records .entry))) ends v ⌝ }
+{
+    if v < h.base_vertices as usize {
+        return false;
+    }
+    let parents = stored_entries::parents_in(vertices, v);
+    if parents.p != ends.lower {
+        return false;
+    }
+    parents.q == ends.higher
+}
+
+// The vertex with these parents; the count of vertices where there is none.
+pub fn vertex_with(h: Header, vertices: &[u8], records: &[u8], ends: Ends) -> usize
+    ensures { λ r. ⌜ r ≡ vertexWith (tables h (now (vertices .entry)) (now (records .entry))) ends ⌝ }
+{
+    let count = h.vertices as usize;
+    let mut v: usize = 0;
+    while v < count {
+        if has_parents(h, vertices, records, ends, v) {
+            return v;
+        }
+        v += 1;
+    }
+    count
+}

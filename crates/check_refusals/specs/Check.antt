@@ -1,0 +1,86 @@
+-- What check answers, for every byte string: document 01, "Numbers we give back".
+use mathlib.Core.Bool.{Bool, cond}
+use mathlib.Core.List.{List, [], _∷_}
+use Prim.Native.Nat.{ℕ}
+use lib.Dec.{eqb}
+use Rattle.laws.specs.Below.{countBelow, greatestBelow, sumBelow, firstBelow}
+use Rattle.stored.specs.Layout.{headerOf}
+use Rattle.check_refusals.specs.declared.Report.{Report}
+use Rattle.check_refusals.specs.Tables.{Tables, tablesOf, allRecords, pieceAt, isLeaf, sixfoldAt}
+use Rattle.check_refusals.specs.Refusals.{wrongLength, wrongMark, limits, wrongCounts, badVertices, badBaseRecords, badBaseMarks, badBaseFaces, unusedVertices, badCuts, hangsAt, leafHangs, hangingEdge}
+
+-- A row of the table: a number, and whether its rule is broken.
+pub record Row : Type 0 where
+  pub number : ℕ
+  pub broken : Bool
+
+abbrev pub row : ℕ → Bool → Row
+row n b = record { number = n; broken = b }
+
+-- Refusals 4 to 10, of the tables.
+unfoldable pub tableRows : Tables → List Row
+tableRows m =
+    row 4 (badVertices m)
+    ∷ row 5 (badBaseRecords m)
+    ∷ row 6 (badBaseMarks m)
+    ∷ row 7 (badBaseFaces m)
+    ∷ row 8 (unusedVertices m)
+    ∷ row 9 (badCuts m)
+    ∷ row 10 (hangingEdge m)
+    ∷ []
+
+-- Refusals 1 to 10 in the order of the numbers.
+unfoldable pub rows : List ℕ → List Row
+rows s = row 1 (wrongLength s) ∷ row 2 (wrongMark s) ∷ row 3 (wrongCounts limits (headerOf s)) ∷ tableRows (tablesOf s)
+
+-- "The first rule broken, in the order of the numbers, names the refusal."; 0 where none is.
+unfoldable pub firstBroken : List Row → ℕ
+firstBroken [] = 0
+firstBroken (r ∷ rest) = let later = firstBroken rest in cond (r .broken) (r .number) later
+
+unfoldable pub checkNumber : List ℕ → ℕ
+checkNumber s = firstBroken (rows s)
+
+-- "leaves, greatest leaf generation and summed sixfold volume of the leaves"
+unfoldable pub leaves : Tables → ℕ
+leaves m = countBelow (allRecords m) (isLeaf m)
+
+unfoldable pub leafGeneration : Tables → ℕ → ℕ
+leafGeneration m n = cond (isLeaf m n) (pieceAt m n .generation) 0
+
+unfoldable pub deepest : Tables → ℕ
+deepest m = greatestBelow (allRecords m) (leafGeneration m)
+
+unfoldable pub leafSixfold : Tables → ℕ → ℕ
+leafSixfold m n = let volume = sixfoldAt m (pieceAt m n) in cond (isLeaf m n) volume 0
+
+unfoldable pub sixfold : Tables → ℕ
+sixfold m = sumBelow (allRecords m) (leafSixfold m)
+
+-- "with a refusal these three are 0" and "with any other answer both are 0"
+abbrev pub refusedWith : ℕ → Report
+refusedWith n = record { number = n; leaves = 0; deepest = 0; sixfold = 0; «record» = 0; edge = 0 }
+
+-- "On acceptance it returns number 0, leaves, greatest leaf generation and summed sixfold volume of the leaves"
+abbrev pub accepted : Tables → Report
+accepted m = record { number = 0; leaves = leaves m; deepest = deepest m; sixfold = sixfold m; «record» = 0; edge = 0 }
+
+-- "with 10 it also returns the first leaf edge found hanging, by record and then edge code"
+unfoldable pub firstHanging : Tables → ℕ
+firstHanging m = firstBelow (allRecords m) (leafHangs m)
+
+abbrev pub hangingReport : Tables → Report
+hangingReport m =
+    record { number = 10; leaves = 0; deepest = 0; sixfold = 0; «record» = firstHanging m; edge = firstBelow 6 (hangsAt m (firstHanging m)) }
+
+-- What is returned with a number.
+unfoldable pub reportOf : Tables → ℕ → Report
+reportOf m number =
+    let good = accepted m in
+    let hanging = hangingReport m in
+    let other = cond (eqb number 10) hanging (refusedWith number) in
+    cond (eqb number 0) good other
+
+-- What check returns, for every byte string.
+unfoldable pub checkOf : List ℕ → Report
+checkOf s = reportOf (tablesOf s) (checkNumber s)

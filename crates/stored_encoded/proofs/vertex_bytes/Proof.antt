@@ -1,0 +1,33 @@
+-- `stored_encoded::vertex_bytes` meets its contract: with what the call ensures the definition computes to these bytes.
+use borrow.Author.Needs.{needs}
+use Rattle.laws.specs.Numbers.{numberBytes}
+use Rattle.stored.specs.Layout.{vertexBytes}
+use Rattle.stored_encoded.proofs.vertex_bytes.Statement.{statement}
+use Rattle.stored_encoded.proofs.vertex_bytes.Tie as tie
+
+returns : tie.Need-returns
+unfolding vertexBytes numberBytes
+returns c = rw (c .number-bytes .ensures)
+
+pub vertex-bytes-spec : {M : Type 1} → statement M
+vertex-bytes-spec =
+    tie.close
+    (tie.spec
+    (λ c. search needs)
+    (λ c. search needs)
+    (λ c. search needs)
+    (λ c. search needs)
+    (λ c. search needs)
+    (λ c. search needs)
+    (λ c κs. search needs)
+    (λ c. search needs)
+    (λ c. search needs)
+    (λ c. search needs)
+    (λ c. search needs)
+    (λ c. search needs)
+    (λ c. search needs)
+    (λ c. search needs)
+    (λ c. search needs)
+    (λ c. search needs)
+    (λ c. search needs)
+    returns)

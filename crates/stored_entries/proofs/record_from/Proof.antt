@@ -1,0 +1,21 @@
+-- `stored_entries::record_from` meets its contract: each field is what its call reads.
+use borrow.Author.Needs.{needs}
+use Rattle.stored.specs.Layout.{recordFrom}
+use Rattle.stored_entries.proofs.record_from.Statement.{statement}
+use Rattle.stored_entries.proofs.record_from.Tie as tie
+
+returns : tie.Need-returns
+unfolding recordFrom
+returns c = rw (c .before .before .before .before .before .corners-from .ensures, c .before .before .before .before .byte .ensures, c .before .before .before .marks-from .ensures, c .before .before .byte2 .ensures, c .before .byte3 .ensures, c .two .ensures .0)
+
+pub record-from-spec : {M : Type 1} → statement M
+record-from-spec =
+    tie.close
+    (tie.spec
+    (λ c κs. search needs)
+    (λ c κs. search needs)
+    (λ c κs. search needs)
+    (λ c κs. search needs)
+    (λ c κs. search needs)
+    (λ c κs. search needs)
+    returns)

@@ -1,0 +1,12 @@
+-- `stored_entries::record_in` meets its contract: the record that its entry begins with.
+use borrow.Author.Needs.{needs}
+use Rattle.stored.specs.Layout.{recordIn}
+use Rattle.stored_entries.proofs.record_in.Statement.{statement}
+use Rattle.stored_entries.proofs.record_in.Tie as tie
+
+returns : tie.Need-returns
+unfolding recordIn
+returns c = rw (c .record-from .ensures, c .before .entry .ensures)
+
+pub record-in-spec : {M : Type 1} → statement M
+record-in-spec = tie.close (tie.spec (λ c κs. search needs) (λ c κs. search needs) returns)

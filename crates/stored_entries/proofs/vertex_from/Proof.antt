@@ -1,0 +1,14 @@
+-- `stored_entries::vertex_from` meets its contract: each field is the number that its call reads.
+use borrow.Author.Needs.{needs}
+use Rattle.stored.specs.Layout.{vertexFrom}
+use Rattle.stored_entries.proofs.vertex_from.Statement.{statement}
+use Rattle.stored_entries.proofs.vertex_from.Tie as tie
+
+returns : tie.Need-returns
+unfolding vertexFrom
+returns c = rw (c .before .before .before .before .place .ensures, c .before .before .before .place2 .ensures, c .before .before .place3 .ensures, c .before .two .ensures .0, c .two2 .ensures .0)
+
+pub vertex-from-spec : {M : Type 1} → statement M
+vertex-from-spec =
+    tie.close
+    (tie.spec (λ c κs. search needs) (λ c κs. search needs) (λ c κs. search needs) (λ c κs. search needs) (λ c κs. search needs) returns)

@@ -1,0 +1,12 @@
+-- `stored_selections::named_in` meets its contract: the number at the entry of what follows the heading.
+use borrow.Author.Needs.{needs}
+use Rattle.stored.specs.Layout.{namedIn}
+use Rattle.stored_selections.proofs.named_in.Statement.{statement}
+use Rattle.stored_selections.proofs.named_in.Tie as tie
+
+returns : tie.Need-returns
+unfolding namedIn
+returns c = rw (c .two .ensures .0, c .before .entry .ensures, c .before .before .after .ensures)
+
+pub named-in-spec : {M : Type 1} → statement M
+named-in-spec = tie.close (tie.spec (λ c κs. search needs) (λ c κs. search needs) (λ c κs. search needs) returns)
