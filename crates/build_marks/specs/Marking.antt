@@ -29,7 +29,7 @@ plainPlace coordinates v =
       z = placeFor (getD coordinates (3 * v + 2) (pos 0));
     }
 
--- "Base vertices [..] have 65,535 for both parents."
+-- "Base vertices [..] have 65,535 for both parents.": none
 unfoldable pub plainVertex : List ℤ → ℕ → Vertex
 plainVertex coordinates v = record { place = plainPlace coordinates v; p = none; q = none }
 

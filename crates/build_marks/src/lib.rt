@@ -47,8 +47,8 @@ pub fn plain_vertex(coordinates: &[i16], v: u32) -> Vertex
     let place = plain_place(coordinates, v);
     Vertex {
         place: place,
-        p: 65535,
-        q: 65535,
+        p: stored::NONE,
+        q: stored::NONE,
     }
 }
 
@@ -174,6 +174,6 @@ pub fn plain_record(coordinates: &[i16], corners: &[u16], n: u32) -> Record
     let piece = marked_piece(coordinates, plain_piece(corners, n));
     Record {
         piece: piece,
-        first_child: 65535,
+        first_child: stored::NONE,
     }
 }

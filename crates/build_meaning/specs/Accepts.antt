@@ -11,21 +11,20 @@ use lib.Dec.{ltb}
 use borrow.Author.Tests.{ltb-false}
 use Rattle.laws.specs.Below.{or-left-false, or-right-false, countBelow, count-none, count-suc, greatestBelow, greatest-none, greatest-suc}
 use Rattle.piece.specs.declared.Piece.{Piece}
-use Rattle.piece.specs.Shape.{shapeOf}
-use Rattle.piece_cut.specs.Theorems.{Valid}
+use Rattle.piece.specs.Shape.{shapeOf, Valid}
 use Rattle.stored.specs.declared.Header.{Header}
 use Rattle.stored.specs.declared.Record.{Record}
-use Rattle.stored.specs.Layout.{none}
+use Rattle.stored.specs.Layout.{none, limits}
 use Rattle.stored.specs.Fitting.{MeshFits}
 use Rattle.stored.specs.Meshes.{mesh-right-length, mesh-right-mark}
 use Rattle.check_refusals.specs.Tables.{Tables, tablesOf, baseVertices, allVertices, baseRecords, allRecords, pieceAt, isLeaf}
-use Rattle.check_refusals.specs.Refusals.{wrongLength, wrongMark, limits, wrongCounts, badVertices, badBaseRecords, badBaseFaces, unusedVertices}
+use Rattle.check_refusals.specs.Refusals.{wrongLength, wrongMark, wrongCounts, badVertices, badBaseRecords, badBaseFaces, unusedVertices}
 use Rattle.check_refusals.specs.Check.{firstBroken, checkNumber, leaves, leafGeneration, deepest, sixfold, reportOf, checkOf}
 use Rattle.check_meaning.specs.Tests.{equal}
-use Rattle.check_meaning.specs.Accepted.{RightCounts, RightBaseRecords, RightBaseMarks, RightCuts, Accepted, Made, Leaf}
+use Rattle.check_meaning.specs.Accepted.{Within, RightCounts, RightBaseRecords, RightBaseMarks, RightCuts, Accepted, Made, Leaf}
 use Rattle.check_meaning.specs.Heading.{rule1-holds, rule2-holds, rule3-holds}
 use Rattle.check_meaning.specs.Vertices.{rule4-holds}
-use Rattle.check_meaning.specs.Bases.{rule5-holds}
+use Rattle.check_meaning.specs.Bases.{valid-marks, rule5-holds}
 use Rattle.check_meaning.specs.Faces.{rule7-holds, rule8-holds}
 use Rattle.check_meaning.specs.Exactly.{accepts-exactly}
 use Rattle.build_marks.specs.Marking.{plainVertex, plainPiece, markedPiece, plainRecord}
@@ -76,8 +75,8 @@ module _ (job : ℕ) (coordinates : List ℤ) (corners : List ℕ) (room : ℕ) 
   counts-fit p =
       let both = or-left-false _ _ (or-left-false _ _ (or-left-false _ _ (or-left-false _ _ (p .counts)))) in
       record {
-        vertices = let l = ltb-false 1024 (length coordinates / 3) (or-left-false _ _ both) in omega arith;
-        records = let l = ltb-false 3072 (length corners / 4) (or-right-false (ltb 1024 (length coordinates / 3)) _ both) in omega arith;
+        vertices = let l = ltb-false (limits .vertices) (length coordinates / 3) (or-left-false _ _ both) in omega arith;
+        records = let l = ltb-false (limits .records) (length corners / 4) (or-right-false (ltb (limits .vertices) (length coordinates / 3)) _ both) in omega arith;
       }
 
 -- Where the test passes at each, all are counted.
@@ -138,9 +137,9 @@ module _ (job : ℕ) (coordinates : List ℤ) (corners : List ℕ) where
     all-leaves n l = ap (λ (r : Record). r .«first_child») (build-record n (omega (arith, all-plain)))
 
     -- 3 is build's own, of the header that check reads again.
-    right-counts : RightCounts m
+    right-counts : Within limits m × RightCounts m
     unfolding tablesOf
-    right-counts = rule3-holds s .0 (rw build-header (tried .counts))
+    right-counts = rule3-holds limits s .0 (rw build-header (tried .counts))
 
     right-records : RightBaseRecords m
     right-records = rule5-holds m .0 (tried .base-records)
@@ -151,8 +150,8 @@ module _ (job : ℕ) (coordinates : List ℤ) (corners : List ℕ) where
     right-marks n l =
         let p = plainPiece corners n in
         let same : pieceAt m n ≡ markedPiece coordinates p = ap (λ (r : Record). r .piece) (build-record n (omega (arith, all-base .1, all-plain))) in
-        subst (λ (q : Piece). Valid (shapeOf q)) (sym same)
-        (marked-valid coordinates p (subst Different same (right-records n l .different)))
+        valid-marks (pieceAt m n)
+        (subst (λ (q : Piece). Valid (shapeOf q)) (sym same) (marked-valid coordinates p (subst Different same (right-records n l .different))))
 
     -- 9 asks nothing: there are only base records, uncut, and no made vertex.
     right-cuts : RightCuts m
@@ -171,9 +170,10 @@ module _ (job : ℕ) (coordinates : List ℤ) (corners : List ℕ) where
         record {
           length = rule1-holds s .0 (ap not (mesh-right-length (plainMesh job coordinates corners) build-fits));
           mark = rule2-holds s .0 (ap not (mesh-right-mark (plainMesh job coordinates corners) build-fits));
+          limits = right-counts .0;
           mesh = record {
-            counts = right-counts;
-            vertices = rule4-holds m (right-counts .vertices-within) .0 (tried .vertices);
+            counts = right-counts .1;
+            vertices = rule4-holds m (right-counts .1 .vertices-within) .0 (tried .vertices);
             base-records = right-records;
             base-marks = right-marks;
             faces = rule7-holds m .0 (tried .faces);
@@ -196,7 +196,7 @@ module _ (job : ℕ) (coordinates : List ℤ) (corners : List ℕ) where
     pub build-depth : deepest (written job coordinates corners) ≡ 0
     unfolding deepest leafGeneration
     build-depth =
-        greatest-zero (leafGeneration m) (allRecords m)
+        greatest-zero (λ n. leafGeneration (m .recordAt n)) (allRecords m)
         (λ n l. rw (equal (m .recordAt n .«first_child») none .1 (all-leaves n l)) (right-records n (omega (arith, all-base .1)) .generation))
 
     -- What check returns of it, all six figures.

@@ -6,10 +6,10 @@ use native.Mathlib.Omega.{arith}
 use lib.Dec.{ltb}
 use borrow.Author.Tests.{ltb-true, ltb-false}
 use Rattle.laws.specs.Below.{foldBelow, allBelow, either}
+use Rattle.laws.specs.Pairs.{SamePair}
 use Rattle.piece.specs.declared.Piece.{Piece}
-use Rattle.piece_edges.specs.Edges.{lowSlot, highSlot}
+use Rattle.piece_edges.specs.Edges.{lowSlot, highSlot, slots-small}
 use Rattle.piece.specs.Ends.{cornerAt, lowerEnd, higherEnd, endsOf}
-use Rattle.piece_cut.specs.Theorems.{SamePair, slots-small}
 use Rattle.check_meaning.specs.Tests.{equal, not-passes, fails-unless, and-passes, or-passes, all-pass}
 
 -- The corners of a piece are four different vertices.

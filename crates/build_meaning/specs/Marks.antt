@@ -12,8 +12,7 @@ use borrow.Author.Tests.{eqb-true, eqb-false}
 use Rattle.laws.specs.Below.{foldBelow, anyBelow, allBelow, all-at, any-is, first-where, either}
 use Rattle.piece.specs.declared.Piece.{Piece}
 use Rattle.piece_edges.specs.Edges.{lowSlot, highSlot, hasSlot, onFace}
-use Rattle.piece.specs.Shape.{shapeOf, mark, markFits, flagFits}
-use Rattle.piece_cut.specs.Theorems.{Valid}
+use Rattle.piece.specs.Shape.{shapeOf, mark, markFits, flagFits, Valid}
 use Rattle.grid_lengths.specs.Lengths.{ranksBefore}
 use Rattle.grid_lengths.specs.RankingTheorems.{irreflexive, transitive, total}
 use Rattle.check_refusals.specs.Refusals.{badMarks}
@@ -106,7 +105,7 @@ module _ (coordinates : List ℤ) (p : Piece) where
     -- A piece with four different corners is properly marked.
     pub marked-valid : Valid (shapeOf (markedPiece coordinates p))
     unfolding markedPiece flagFits
-    marked-valid = record { four = refl; valid = valid-is (markedPiece coordinates p) .1 (edge-is-first .there, (marks-fit, refl)) }
+    marked-valid = record { four = refl; valid = valid-is (shapeOf (markedPiece coordinates p)) .1 (edge-is-first .there, (marks-fit, refl)) }
 
     -- Refusal 6 can't be broken.
     pub never-badly-marked : badMarks (markedPiece coordinates p) ≡ false

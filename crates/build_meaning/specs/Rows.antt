@@ -17,7 +17,7 @@ use Rattle.piece.specs.Ends.{lowerEnd, higherEnd, endsOf}
 use Rattle.grid.specs.Places.{coordinate, coordinateOnGrid, onGrid, samePlace}
 use Rattle.grid_lengths.specs.Lengths.{squaredLength, ranksBefore}
 use Rattle.grid_volume.specs.Volume.{minorOf, determinantOf, differenceOf, differencesOf, sixfoldOf}
-use Rattle.stored.specs.Layout.{meshBytes, headerBytes, markBytes, headerOf, verticesOf, vertexIn, vertexFrom, vertexBytes, recordsOf, recordIn, recordFrom, recordBytes}
+use Rattle.stored.specs.Layout.{meshBytes, headerBytes, markBytes, headerOf, heldIn, orNone, storedOrNone, vertexIn, vertexFrom, vertexBytes, recordIn, recordFrom, recordBytes}
 use Rattle.check_refusals.specs.Tables.{tablesOf, sixfoldAt}
 use Rattle.check_refusals.specs.Refusals.{wrongCounts, badVertices, badVertex, badBaseVertex, placeTwice, badBaseRecords, badBaseRecord, badPiece, equalCorners, cornerNotInBase, badBaseFaces, badFaces, badWith, unusedVertices, unusedVertex, hasCorner}
 use Rattle.check_refusals.specs.Check.{firstBroken}
@@ -56,7 +56,7 @@ K-typed = refl
 
 -- None of build's rules is broken, computed from the bytes.
 K-accepted : (room : ℕ) → 77 ≤ room → buildNumber 7 K-coordinates K-corners room ≡ 0
-unfolding buildNumber buildRows firstBroken notWhole wrongCounts badVertices badVertex badBaseVertex placeTwice badBaseRecords badBaseRecord badPiece equalCorners cornerNotInBase badBaseFaces badFaces badWith unusedVertices unusedVertex hasCorner sixfoldAt sixfoldOf differencesOf differenceOf determinantOf minorOf onGrid coordinateOnGrid coordinate samePlace anyBelow foldBelow tablesOf plainBytes plainMesh plainHeader plainVertex plainPlace plainRecord markedPiece plainPiece firstRanked outranked rankOf endsOf lowerEnd higherEnd lowSlot highSlot hasSlot onFace firstBelow squaredLength ranksBefore meshBytes headerBytes markBytes headerOf verticesOf vertexIn vertexFrom vertexBytes recordsOf recordIn recordFrom recordBytes listBelow joined number numberBytes
+unfolding buildNumber buildRows firstBroken notWhole wrongCounts badVertices badVertex badBaseVertex placeTwice badBaseRecords badBaseRecord badPiece equalCorners cornerNotInBase badBaseFaces badFaces badWith unusedVertices unusedVertex hasCorner sixfoldAt sixfoldOf differencesOf differenceOf determinantOf minorOf onGrid coordinateOnGrid coordinate samePlace anyBelow foldBelow tablesOf plainBytes plainMesh plainHeader plainVertex plainPlace plainRecord markedPiece plainPiece firstRanked outranked rankOf endsOf lowerEnd higherEnd lowSlot highSlot hasSlot onFace firstBelow squaredLength ranksBefore meshBytes headerBytes markBytes headerOf heldIn orNone storedOrNone vertexIn vertexFrom vertexBytes recordIn recordFrom recordBytes listBelow joined number numberBytes
 K-accepted room h = rw (le-ltb room 77 h)
 
 -- The row holds.

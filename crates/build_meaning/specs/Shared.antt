@@ -6,12 +6,12 @@ use mathlib.Core.List.{List}
 use Prim.Native.Nat.{ℕ, _<_}
 use lib.IntN.{ℤ}
 use Rattle.laws.specs.Below.{foldBelow, anyBelow, any-fails, allBelow}
+use Rattle.laws.specs.Pairs.{SamePair}
 use Rattle.piece.specs.declared.Piece.{Piece}
 use Rattle.piece.specs.declared.Ends.{Ends}
-use Rattle.piece_edges.specs.Edges.{lowSlot, highSlot, hasSlot, onFace}
+use Rattle.piece_edges.specs.Edges.{lowSlot, highSlot, hasSlot, onFace, slots-small}
 use Rattle.piece.specs.Shape.{shapeOf, mark}
 use Rattle.piece.specs.Ends.{cornerAt, lowerEnd, higherEnd, endsOf}
-use Rattle.piece_cut.specs.Theorems.{SamePair, slots-small}
 use Rattle.grid.specs.Places.{pointOf}
 use Rattle.grid_lengths.specs.Lengths.{squaredLength}
 use Rattle.check_refusals.specs.Refusals.{faceHas, faceWithin, sameFace, sameEnds, sameMark, twoMarksOn, twoMarks}

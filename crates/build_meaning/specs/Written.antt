@@ -1,6 +1,7 @@
 -- What build writes keeps every number of the plain mesh: each fits its stored width, and check reads it again.
 use mathlib.Core.Path.{_≡_, refl, sym, _∙_, subst}
 use mathlib.Core.Bool.{Bool, true}
+use mathlib.Core.Logic.{inl}
 use mathlib.Core.List.{List}
 use Prim.Native.Nat.{ℕ, zero, suc, _+_, _*_, _/_, _≤_, _<_}
 use native.Mathlib.Omega.{arith}
@@ -46,8 +47,8 @@ module _ (job : ℕ) (coordinates : List ℤ) (corners : List ℕ) (g : Given jo
         x = g .each-coordinate (3 * v) (omega arith);
         y = g .each-coordinate (3 * v + 1) (omega arith);
         z = g .each-coordinate (3 * v + 2) (omega arith);
-        p = omega arith;
-        q = omega arith;
+        p = inl refl;
+        q = inl refl;
       }
 
   corner-fits : (n : ℕ) → n < length corners / 4 → (k : ℕ) → U16 (getD (plainRecord coordinates corners n .piece .corners) k 0)
@@ -71,7 +72,7 @@ module _ (job : ℕ) (coordinates : List ℤ) (corners : List ℕ) (g : Given jo
         marks = bytes-cons (byte (λ e. onFace e 0)) (bytes-cons (byte (λ e. onFace e 1)) (bytes-cons (byte (λ e. onFace e 2)) (bytes-cons (byte (λ e. onFace e 3)) bytes-none)));
         flag = omega arith;
         generation = omega arith;
-        firstChild = omega arith;
+        firstChild = inl refl;
       }
 
   -- Every number of the plain mesh fits its stored width.

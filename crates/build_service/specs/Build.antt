@@ -7,9 +7,9 @@ use lib.IntN.{ℤ}
 use lib.Dec.{eqb, ltb}
 use Rattle.laws.specs.Below.{listBelow}
 use Rattle.stored.specs.declared.Header.{Header}
-use Rattle.stored.specs.Layout.{Mesh, meshBytes}
+use Rattle.stored.specs.Layout.{limits, Mesh, meshBytes}
 use Rattle.check_refusals.specs.Tables.{tablesOf}
-use Rattle.check_refusals.specs.Refusals.{limits, wrongCounts, badVertices, badBaseRecords, badBaseFaces, unusedVertices}
+use Rattle.check_refusals.specs.Refusals.{wrongCounts, badVertices, badBaseRecords, badBaseFaces, unusedVertices}
 use Rattle.check_refusals.specs.Check.{Row, row, firstBroken}
 use Rattle.build_marks.specs.Marking.{plainVertex, plainRecord}
 

@@ -1,26 +1,29 @@
 -- How the plain mesh is written, part after part, and what is judged of what was written.
-use mathlib.Core.Path.{_≡_, refl, sym, ap, ap₂, _∙_, subst}
+use mathlib.Core.Path.{_≡_, refl, sym, ap, _∙_}
 use mathlib.Core.Logic.{_≢_}
 use mathlib.Core.Bool.{Bool, true, false, cond, _||_}
 use Prim.Native.Nat.{ℕ, zero, suc, _+_, _-_, _*_, _/_, _≤_, _<_}
 use native.Mathlib.Numerals.{add-one}
 use native.Mathlib.Nat.{zero-add}
 use native.Mathlib.Omega.{arith}
-use mathlib.Core.List.{List, [], _∷_, _++_, append-assoc, append-nil}
-use lib.ListN.{length, set, take, drop, replicate, length-append, length-replicate, drop-of-length-le}
-use lib.Seq.{sets, sets-eq, length-sets, length-take-le}
+use mathlib.Core.List.{List, [], _∷_, _++_, append-nil}
+use lib.ListN.{length, take, drop, replicate, length-replicate}
+use lib.Seq.{sets, sets-eq, length-sets, take-at}
 use lib.IntN.{ℤ}
 use lib.Dec.{eqb, ltb}
 use borrow.Author.Tests.{ne-eqb, lt-ltb, le-ltb}
 use Rattle.laws.specs.Below.{listBelow, list-none, list-suc, list-length}
-use Rattle.laws.specs.Lists.{joined, joined-append, joined-length, sets-append, copied, copied-all, cleared-next}
+use Rattle.laws.specs.Lists.{joined, joined-append, joined-length, sets-append}
+use Rattle.stored.specs.declared.Layout.{Layout}
 use Rattle.stored.specs.declared.Header.{Header}
-use Rattle.stored.specs.Layout.{vertexWidth, recordWidth, headerOf, verticesOf, recordsOf, headerBytes, headerInto, vertexBytes, recordBytes, meshLength, meshVertexInto, meshRecordInto, meshBytes}
+use Rattle.stored.specs.declared.Vertex.{Vertex}
+use Rattle.stored.specs.declared.Record.{Record}
+use Rattle.stored.specs.Layout.{vertexWidth, recordWidth, limits, headerBytes, vertexBytes, recordBytes, baseInto, grownInto, working, assembled, meshBytes}
+use Rattle.stored.specs.Held.{into-base, not-into-base, into-growth, not-into-growth}
 use Rattle.stored.specs.Fitting.{U32, HeaderFits}
-use Rattle.stored.specs.Entries.{header-wide, header-again, vertex-wide, record-wide}
-use Rattle.stored.specs.Tables.{header-length}
-use Rattle.check_refusals.specs.Tables.{Tables, tables, tablesOf}
-use Rattle.check_refusals.specs.Refusals.{limits, wrongCounts, badVertices, badBaseRecords, badBaseFaces, unusedVertices}
+use Rattle.stored.specs.Entries.{vertex-wide, record-wide}
+use Rattle.check_refusals.specs.Tables.{Tables, tablesOf}
+use Rattle.check_refusals.specs.Refusals.{wrongCounts, badVertices, badBaseRecords, badBaseFaces, unusedVertices}
 use Rattle.check_refusals.specs.Check.{row, firstBroken}
 use Rattle.check_refusals.specs.Bounded.{Bounded, bounded}
 use Rattle.build_marks.specs.Marking.{plainVertex, plainRecord}
@@ -28,19 +31,14 @@ use Rattle.build_service.specs.Build.{notWhole, plainHeader, plainMesh, 
 
 -- ---- the parts
 
--- s, with the first n vertices written after the header.
+-- s, with the first n vertices written, and s with the first n records written.
 unfoldable pub verticesPut : List ℕ → List ℤ → ℕ → List ℕ
-verticesPut s coordinates n = sets s (meshLength 0 0) (joined vertexBytes (listBelow n (plainVertex coordinates)))
+verticesPut s coordinates n = sets s 0 (joined vertexBytes (listBelow n (plainVertex coordinates)))
 
--- s, with the first n records written after all vertices.
-unfoldable pub recordsPut : List ℕ → List ℤ → List ℕ → ℕ → ℕ → List ℕ
-recordsPut s coordinates corners vertices n = sets s (meshLength vertices 0) (joined recordBytes (listBelow n (plainRecord coordinates corners)))
+unfoldable pub recordsPut : List ℕ → List ℤ → List ℕ → ℕ → List ℕ
+recordsPut s coordinates corners n = sets s 0 (joined recordBytes (listBelow n (plainRecord coordinates corners)))
 
-unfoldable pub meshPut : List ℕ → Header → List ℤ → List ℕ → List ℕ
-meshPut s h coordinates corners =
-    recordsPut (verticesPut (headerInto s h) coordinates (h .vertices)) coordinates corners (h .vertices) (h .records)
-
--- one entry more
+-- one entry more, and the front that so many entries make up
 module _ {ℓ} {A : Type ℓ} (bytes : A → List ℕ) (w : ℕ) (wide : (x : A) → length (bytes x) ≡ w) (f : ℕ → A) (s : List ℕ) where
   entries-long : (n : ℕ) → length (joined bytes (listBelow n f)) ≡ w * n
   entries-long n = joined-length bytes w wide (listBelow n f) ∙ ap (λ (k : ℕ). w * k) (list-length f n)
@@ -50,151 +48,141 @@ module _ {ℓ} {A : Type ℓ} (bytes : A → List ℕ) (w : ℕ) (wide : (x : A)
   entries-more i =
       rw (add-one i, list-suc f i, joined-append bytes (listBelow i f) (f i ∷ []), append-nil (bytes (f i)))
 
-  entries-next : (at to i : ℕ) → to ≡ at + w * i → sets (sets s at (joined bytes (listBelow i f))) to (bytes (f i)) ≡ sets s at (joined bytes (listBelow (i + 1) f))
-  entries-next at to i e =
-      ap (λ (k : ℕ). sets (sets s at (joined bytes (listBelow i f))) k (bytes (f i))) (e ∙ ap (λ (k : ℕ). at + k) (sym (entries-long i)))
-      ∙ sym (sets-append s at (joined bytes (listBelow i f)) (bytes (f i)))
-      ∙ ap (sets s at) (sym (entries-more i))
+  entries-next : (i : ℕ) → sets (sets s 0 (joined bytes (listBelow i f))) (0 + w * i) (bytes (f i)) ≡ sets s 0 (joined bytes (listBelow (i + 1) f))
+  entries-next i =
+      ap (λ (k : ℕ). sets (sets s 0 (joined bytes (listBelow i f))) (0 + k) (bytes (f i))) (sym (entries-long i))
+      ∙ sym (sets-append s 0 (joined bytes (listBelow i f)) (bytes (f i)))
+      ∙ ap (sets s 0) (sym (entries-more i))
+
+  entries-front : (n : ℕ) → w * n ≤ length s → take (w * n) (sets s 0 (joined bytes (listBelow n f))) ≡ joined bytes (listBelow n f)
+  entries-front n l =
+      let all : List ℕ = joined bytes (listBelow n f) in
+      let long : length all ≡ w * n = entries-long n in
+      ap (take (w * n)) (sets-eq all s 0 (omega arith)) ∙ take-at all (drop (0 + length all) s) (w * n) long
 
 module _ (s : List ℕ) (coordinates : List ℤ) where
   pub vertices-none : verticesPut s coordinates 0 ≡ s
   unfolding verticesPut joined
   vertices-none = rw (list-none (plainVertex coordinates))
 
-  pub vertices-next : (i : ℕ) → meshVertexInto (verticesPut s coordinates i) i (plainVertex coordinates i) ≡ verticesPut s coordinates (i + 1)
-  unfolding verticesPut meshVertexInto
-  vertices-next i = entries-next vertexBytes vertexWidth vertex-wide (plainVertex coordinates) s (meshLength 0 0) (meshLength i 0) i (omega arith)
+  pub vertices-next : (i : ℕ) → sets (verticesPut s coordinates i) (0 + vertexWidth * i) (vertexBytes (plainVertex coordinates i)) ≡ verticesPut s coordinates (i + 1)
+  unfolding verticesPut
+  vertices-next i = entries-next vertexBytes vertexWidth vertex-wide (plainVertex coordinates) s i
 
   pub vertices-length : (i : ℕ) → length (verticesPut s coordinates i) ≡ length s
   unfolding verticesPut
-  vertices-length i = length-sets s (meshLength 0 0) (joined vertexBytes (listBelow i (plainVertex coordinates)))
+  vertices-length i = length-sets s 0 (joined vertexBytes (listBelow i (plainVertex coordinates)))
 
-module _ (s : List ℕ) (coordinates : List ℤ) (corners : List ℕ) (vertices : ℕ) where
-  pub records-none : recordsPut s coordinates corners vertices 0 ≡ s
+module _ (s : List ℕ) (coordinates : List ℤ) (corners : List ℕ) where
+  pub records-none : recordsPut s coordinates corners 0 ≡ s
   unfolding recordsPut joined
   records-none = rw (list-none (plainRecord coordinates corners))
 
-  pub records-next : (i : ℕ) → meshRecordInto (recordsPut s coordinates corners vertices i) vertices i (plainRecord coordinates corners i) ≡ recordsPut s coordinates corners vertices (i + 1)
-  unfolding recordsPut meshRecordInto
-  records-next i = entries-next recordBytes recordWidth record-wide (plainRecord coordinates corners) s (meshLength vertices 0) (meshLength vertices i) i (omega arith)
-
-  pub records-length : (i : ℕ) → length (recordsPut s coordinates corners vertices i) ≡ length s
+  pub records-next : (i : ℕ) → sets (recordsPut s coordinates corners i) (0 + recordWidth * (i - 0)) (recordBytes (plainRecord coordinates corners i)) ≡ recordsPut s coordinates corners (i + 1)
   unfolding recordsPut
-  records-length i = length-sets s (meshLength vertices 0) (joined recordBytes (listBelow i (plainRecord coordinates corners)))
+  records-next i =
+      let all : i - 0 ≡ i = omega arith in
+      ap (λ (k : ℕ). sets (recordsPut s coordinates corners i) (0 + recordWidth * k) (recordBytes (plainRecord coordinates corners i))) all
+      ∙ entries-next recordBytes recordWidth record-wide (plainRecord coordinates corners) s i
+
+  pub records-length : (i : ℕ) → length (recordsPut s coordinates corners i) ≡ length s
+  unfolding recordsPut
+  records-length i = length-sets s 0 (joined recordBytes (listBelow i (plainRecord coordinates corners)))
+
+-- one turn: an entry is written into the slice of its table, and the other slice is as it was
+module _ (vertices records i : ℕ) (l : Layout) (is : l ≡ working vertices records) (coordinates : List ℤ) where
+  pub vertex-step : i < vertices → (s base base′ : List ℕ) (v : Vertex) → base ≡ verticesPut s coordinates i → v ≡ plainVertex coordinates i →
+      base′ ≡ baseInto (l .format .«vertex_width») (l .vertices) base i (vertexBytes v) → base′ ≡ verticesPut s coordinates (i + 1)
+  vertex-step lt s base base′ v b e put =
+      put
+      ∙ (λ k. baseInto (is k .format .«vertex_width») (is k .vertices) (b k) i (vertexBytes (e k)))
+      ∙ sym (into-base vertexWidth (working vertices records .vertices) (verticesPut s coordinates i) i (vertexBytes (plainVertex coordinates i)) lt lt)
+      ∙ vertices-next s coordinates i
+
+  pub vertex-frame : i < vertices → (s grown grown′ bytes : List ℕ) → grown ≡ s →
+      grown′ ≡ grownInto (l .format .«vertex_width») (l .vertices) grown i bytes → grown′ ≡ s
+  vertex-frame lt s grown grown′ bytes b put =
+      put
+      ∙ (λ k. grownInto (is k .format .«vertex_width») (is k .vertices) (b k) i bytes)
+      ∙ sym (not-into-growth vertexWidth (working vertices records .vertices) s i bytes lt)
+
+  pub record-step : i < records → (corners s grown grown′ : List ℕ) (r : Record) → grown ≡ recordsPut s coordinates corners i → r ≡ plainRecord coordinates corners i →
+      grown′ ≡ grownInto (l .format .«record_width») (l .records) grown i (recordBytes r) → grown′ ≡ recordsPut s coordinates corners (i + 1)
+  record-step lt corners s grown grown′ r b e put =
+      put
+      ∙ (λ k. grownInto (is k .format .«record_width») (is k .records) (b k) i (recordBytes (e k)))
+      ∙ sym (into-growth recordWidth (working vertices records .records) (recordsPut s coordinates corners i) i (recordBytes (plainRecord coordinates corners i)) lt (omega arith))
+      ∙ records-next s coordinates corners i
+
+  pub record-frame : (s base base′ bytes : List ℕ) → base ≡ s →
+      base′ ≡ baseInto (l .format .«record_width») (l .records) base i bytes → base′ ≡ s
+  record-frame s base base′ bytes b put =
+      put
+      ∙ (λ k. baseInto (is k .format .«record_width») (is k .records) (b k) i bytes)
+      ∙ sym (not-into-base recordWidth (working vertices records .records) s i bytes (omega arith))
 
 -- ---- the whole
 
-module _ (job : ℕ) (coordinates : List ℤ) (corners : List ℕ) where
-  abbrev theHeader : Header
-  theHeader = plainHeader job coordinates corners
+module _ (job : ℕ) (coordinates : List ℤ) (corners : List ℕ) (right : wrongCounts limits (plainHeader job coordinates corners) ≡ false) where
+  few : Bounded (plainHeader job coordinates corners)
+  few = bounded (plainHeader job coordinates corners) right
 
-  abbrev theVertices : List ℕ
-  theVertices = joined vertexBytes (listBelow (length coordinates / 3) (plainVertex coordinates))
-
-  abbrev theRecords : List ℕ
-  theRecords = joined recordBytes (listBelow (length corners / 4) (plainRecord coordinates corners))
-
-  parts : plainBytes job coordinates corners ≡ headerBytes theHeader ++ theVertices ++ theRecords
-  unfolding plainBytes plainMesh meshBytes
-  parts = refl
-
-  front-long : length (headerBytes theHeader ++ theVertices) ≡ meshLength (length coordinates / 3) 0
-  front-long =
-      length-append (headerBytes theHeader) theVertices
-      ∙ ap₂ _+_ (header-wide theHeader) (entries-long vertexBytes vertexWidth vertex-wide (plainVertex coordinates) [] (length coordinates / 3))
-      ∙ omega arith
-
-  pub plain-long : length (plainBytes job coordinates corners) ≡ meshLength (length coordinates / 3) (length corners / 4)
-  plain-long =
-      ap length parts
-      ∙ length-append (headerBytes theHeader ++ theVertices) theRecords
-      ∙ ap₂ _+_ front-long (entries-long recordBytes recordWidth record-wide (plainRecord coordinates corners) [] (length corners / 4))
-      ∙ omega arith
-
-  -- every part, one after the other
-  pub mesh-put : (s : List ℕ) → meshPut s theHeader coordinates corners ≡ sets s 0 (plainBytes job coordinates corners)
-  unfolding meshPut recordsPut verticesPut headerInto plainHeader
-  mesh-put s =
-      sym (
-      ap (sets s 0) parts
-      ∙ sets-append s 0 (headerBytes theHeader ++ theVertices) theRecords
-      ∙ ap₂ (λ (t : List ℕ) (k : ℕ). sets t k theRecords)
-      (sets-append s 0 (headerBytes theHeader) theVertices ∙ ap (λ (k : ℕ). sets (sets s 0 (headerBytes theHeader)) k theVertices) (zero-add (length (headerBytes theHeader)) ∙ header-wide theHeader))
-      (zero-add (length (headerBytes theHeader ++ theVertices)) ∙ front-long)
-      )
-
-  -- what was written is read again
-  pub mesh-taken : (s : List ℕ) (n : ℕ) → n ≡ meshLength (length coordinates / 3) (length corners / 4) → n ≤ length s → take n (meshPut s theHeader coordinates corners) ≡ plainBytes job coordinates corners
-  mesh-taken s n e l =
-      let b : List ℕ = plainBytes job coordinates corners in
-      let long : n ≡ length b = e ∙ sym plain-long in
-      ap₂ take long (mesh-put s ∙ sets-eq b s 0 (omega arith)) ∙ taken b (drop (0 + length b) s)
-    where
-      taken : (b r : List ℕ) → take (length b) (b ++ r) ≡ b
-      taken [] r = refl
-      taken (x ∷ xs) r = ap (λ (t : List ℕ). x ∷ t) (taken xs r)
-
-  module _ (right : wrongCounts limits theHeader ≡ false) where
-    few : Bounded theHeader
-    few = bounded theHeader right
-
-    pub few-vertices : length coordinates / 3 ≤ 1024
-    unfolding plainHeader
-    few-vertices = few .vertices
-
-    pub few-records : length corners / 4 ≤ 3072
-    unfolding plainHeader
-    few-records = few .records
-
-    header-fits : U32 job → HeaderFits theHeader
-    unfolding plainHeader
-    header-fits j =
-        record {
-          job = j;
-          round = omega arith;
-          baseVertices = omega (arith, few-vertices);
-          vertices = omega (arith, few-vertices);
-          baseRecords = omega (arith, few-records);
-          records = omega (arith, few-records);
-        }
-
-    pub plain-bounded : U32 job → Bounded (headerOf (plainBytes job coordinates corners))
-    plain-bounded j =
-        subst Bounded
-        (sym (ap headerOf (parts ∙ append-assoc (headerBytes theHeader) theVertices theRecords) ∙ header-again theHeader (header-fits j) (theVertices ++ theRecords)))
-        few
-
--- The work area, which holds the largest mesh: what is written to it, and the part of it that is the mesh.
-module _ (job : ℕ) (coordinates : List ℤ) (corners : List ℕ) (right : wrongCounts limits (plainHeader job coordinates corners) ≡ false)
-    (s work : List ℕ) (room : length s ≡ meshLength 1024 3072)
-    (h : Header) (is : h ≡ plainHeader job coordinates corners)
-    (put : work ≡ meshPut s h coordinates corners)
-    (n : ℕ) (long : n ≡ meshLength (h .vertices) (h .records)) where
-  as-long : n ≡ meshLength (length coordinates / 3) (length corners / 4)
+  pub few-vertices : length coordinates / 3 ≤ limits .vertices
   unfolding plainHeader
-  as-long = long ∙ ap (λ (g : Header). meshLength (g .vertices) (g .records)) is
+  few-vertices = few .vertices
 
-  work-room : n ≤ length s
-  work-room = omega (arith, as-long, room, few-vertices job coordinates corners right, few-records job coordinates corners right)
+  pub few-records : length corners / 4 ≤ limits .records
+  unfolding plainHeader
+  few-records = few .records
 
-  put-long : length work ≡ length s
-  unfolding meshPut
-  put-long =
-      ap length put
-      ∙ records-length (verticesPut (headerInto s h) coordinates (h .vertices)) coordinates corners (h .vertices) (h .records)
-      ∙ vertices-length (headerInto s h) coordinates (h .vertices)
-      ∙ header-length s h
+  pub header-fits : U32 job → HeaderFits (plainHeader job coordinates corners)
+  unfolding plainHeader
+  header-fits j =
+      record {
+        job = j;
+        round = omega arith;
+        baseVertices = omega (arith, few-vertices);
+        vertices = omega (arith, few-vertices);
+        baseRecords = omega (arith, few-records);
+        records = omega (arith, few-records);
+      }
 
-  pub work-within : n ≤ length work
-  work-within = omega (arith, work-room, put-long)
+-- The work areas, which hold as many vertices and records as there may be: what is written to them, and what is assembled from it.
+module _ (job : ℕ) (coordinates : List ℤ) (corners : List ℕ) (right : wrongCounts limits (plainHeader job coordinates corners) ≡ false)
+    (h : Header) (is : h ≡ plainHeader job coordinates corners)
+    (s t vertices records : List ℕ) (room : length s ≡ vertexWidth * limits .vertices) (deep : length t ≡ recordWidth * limits .records)
+    (first : vertices ≡ verticesPut s coordinates (h .vertices)) (then : records ≡ recordsPut t coordinates corners (h .records)) where
+  counted : h .vertices ≡ length coordinates / 3
+  unfolding plainHeader
+  counted = ap (λ (g : Header). g .vertices) is
 
-  pub work-part : n ≡ length (take n work)
-  work-part = sym (length-take-le n work work-within)
+  numbered : h .records ≡ length corners / 4
+  unfolding plainHeader
+  numbered = ap (λ (g : Header). g .records) is
 
-  pub work-taken : take n work ≡ plainBytes job coordinates corners
-  work-taken =
-      ap (take n) (put ∙ ap (λ (g : Header). meshPut s g coordinates corners) is)
-      ∙ mesh-taken job coordinates corners s n as-long work-room
+  pub vertices-held : vertexWidth * h .vertices ≤ length vertices
+  vertices-held = omega (arith, ap length first ∙ vertices-length s coordinates (h .vertices), counted, room, few-vertices job coordinates corners right)
+
+  pub records-held : recordWidth * h .records ≤ length records
+  records-held = omega (arith, ap length then ∙ records-length t coordinates corners (h .records), numbered, deep, few-records job coordinates corners right)
+
+  pub plain-assembled : assembled h vertices records ≡ plainBytes job coordinates corners
+  unfolding assembled plainBytes plainMesh meshBytes verticesPut recordsPut
+  plain-assembled =
+      let v = entries-front vertexBytes vertexWidth vertex-wide (plainVertex coordinates) s (h .vertices) (omega (arith, counted, room, few-vertices job coordinates corners right)) in
+      let r = entries-front recordBytes recordWidth record-wide (plainRecord coordinates corners) t (h .records) (omega (arith, numbered, deep, few-records job coordinates corners right)) in
+      let vs : take (vertexWidth * h .vertices) vertices ≡ joined vertexBytes (listBelow (length coordinates / 3) (plainVertex coordinates)) =
+      ap (take (vertexWidth * h .vertices)) first ∙ v ∙ ap (λ (n : ℕ). joined vertexBytes (listBelow n (plainVertex coordinates))) counted in
+      let rs : take (recordWidth * h .records) records ≡ joined recordBytes (listBelow (length corners / 4) (plainRecord coordinates corners)) =
+      ap (take (recordWidth * h .records)) then ∙ r ∙ ap (λ (n : ℕ). joined recordBytes (listBelow n (plainRecord coordinates corners))) numbered in
+      λ i. headerBytes (is i) ++ vs i ++ rs i
+
+-- What is judged and stored: the header's numbers fit, the tables are held by their work areas, and the output buffer is clear.
+pub record Ready (h : Header) (vertices records out : List ℕ) : Type 0 where
+  pub fits : HeaderFits h
+  pub vertices-there : vertexWidth * h .vertices ≤ length vertices
+  pub records-there : recordWidth * h .records ≤ length records
+  pub clear : out ≡ replicate (length out) 0
 
 -- The counts are wrong, or not, whatever the job.
 pub counts-alone : (job : ℕ) (coordinates : List ℤ) (corners : List ℕ) → wrongCounts limits (plainHeader 0 coordinates corners) ≡ wrongCounts limits (plainHeader job coordinates corners)
@@ -232,11 +220,6 @@ module _ (m : Tables) where
   pub judged-0 : badVertices m ≡ false → badBaseRecords m ≡ false → badBaseFaces m ≡ false → unusedVertices m ≡ false → 0 ≡ judgedNumber m
   unfolding judgedNumber firstBroken
   judged-0 a b c d = rw (a, b, c, d)
-
--- The tables as they are read from the bytes s.
-pub tables-read : (s v r : List ℕ) (h : Header) → h ≡ headerOf s → v ≡ verticesOf s → r ≡ recordsOf s → tables h v r ≡ tablesOf s
-unfolding tablesOf
-tables-read s v r h a b c = λ i. tables (a i) (b i) (c i)
 
 -- And 20, of the mesh's bytes s and the room for them.
 unfoldable pub laterNumber : List ℕ → ℕ → ℕ
@@ -331,25 +314,3 @@ module _ (job : ℕ) (coordinates : List ℤ) (corners : List ℕ) (room : ℕ) 
       pub build-later-bytes : laterBytes (plainBytes job coordinates corners) room ≡ buildBytes job coordinates corners room
       unfolding buildBytes laterBytes
       build-later-bytes = rw build-later
-
--- ---- clearing
-
--- a buffer that is clear, by its own length
-pub clear-itself : (t : List ℕ) (n : ℕ) → t ≡ replicate n 0 → t ≡ replicate (length t) 0
-clear-itself t n e = e ∙ ap (λ (k : ℕ). replicate {A = ℕ} k 0) (sym (ap length e ∙ length-replicate {A = ℕ} n 0))
-
-pub clear-long : (t : List ℕ) (n : ℕ) → t ≡ replicate n 0 → length t ≡ n
-clear-long t n e = ap length e ∙ length-replicate {A = ℕ} n 0
-
-pub clear-next : (d : List ℕ) (i : ℕ) → i < length d → set (copied d 0 (replicate (length d) 0) i) i 0 ≡ copied d 0 (replicate (length d) 0) (i + 1)
-clear-next d i h =
-    ap (λ (k : ℕ). set (copied d 0 (replicate (length d) 0) i) k 0) (sym (zero-add i)) ∙ cleared-next d 0 (length d) i 0 h
-
-pub clear-done : (d : List ℕ) (n : ℕ) → length d ≤ n → copied d 0 (replicate (length d) 0) n ≡ replicate (length d) 0
-clear-done d n h =
-    let zeros : List ℕ = replicate (length d) 0 in
-    let long : length zeros ≡ length d = length-replicate {A = ℕ} (length d) 0 in
-    copied-all d 0 zeros n (omega arith)
-    ∙ sets-eq zeros d 0 (omega arith)
-    ∙ ap (λ (r : List ℕ). zeros ++ r) (drop-of-length-le d {i = 0 + length zeros} (omega arith))
-    ∙ append-nil zeros

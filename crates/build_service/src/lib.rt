@@ -1,24 +1,15 @@
 // Build: marks a plain mesh and stores it.
 use stored::Header;
+use stored::Layout;
+use stored::Limits;
 ghost use mathlib.Core.Path.{_≡_};
 ghost use mathlib.Core.Bool.{false};
 ghost use lib.ListN.{length, replicate};
-ghost use Rattle.stored.specs.Layout.{headerOf};
-ghost use Rattle.check_refusals.specs.Tables.{tablesOf};
-ghost use Rattle.check_refusals.specs.Refusals.{limits, wrongCounts};
-ghost use Rattle.check_refusals.specs.Bounded.{Bounded};
+ghost use Rattle.stored.specs.Layout.{limits, assembled};
+ghost use Rattle.check_refusals.specs.Tables.{tables};
+ghost use Rattle.check_refusals.specs.Refusals.{wrongCounts};
 ghost use Rattle.build_service.specs.Build.{notWhole, plainHeader, plainBytes, buildNumber, buildBytes};
-ghost use Rattle.build_service.specs.Storing.{verticesPut, recordsPut, meshPut, judgedNumber, laterNumber, laterBytes};
-
-fn clear(out: &mut [u8])
-    ensures { λ _. ⌜ now (out .exit) ≡ replicate (length (now (out .entry))) 0 ⌝ }
-{
-    let mut i: usize = 0;
-    while i < out.len() {
-        out[i] = 0;
-        i += 1;
-    }
-}
+ghost use Rattle.build_service.specs.Storing.{verticesPut, recordsPut, Ready, judgedNumber, laterNumber, laterBytes};
 
 // Refusal 21.
 fn not_whole(coordinates: &[i16], corners: &[u16]) -> bool
@@ -31,15 +22,15 @@ fn not_whole(coordinates: &[i16], corners: &[u16]) -> bool
 }
 
 // Refusal 3, on counts that may be too great for the header.
-fn wrong_counts(coordinates: &[i16], corners: &[u16]) -> bool
-    ensures { λ r. ⌜ r ≡ wrongCounts limits (plainHeader 0 (now (coordinates .entry)) (now (corners .entry))) ⌝ }
+fn wrong_counts(most: Limits, coordinates: &[i16], corners: &[u16]) -> bool
+    ensures { λ r. ⌜ r ≡ wrongCounts most (plainHeader 0 (now (coordinates .entry)) (now (corners .entry))) ⌝ }
 {
     let vertices = coordinates.len() / 3;
     let records = corners.len() / 4;
-    if 1024 < vertices {
+    if (most.vertices as usize) < vertices {
         return true;
     }
-    if 3072 < records {
+    if (most.records as usize) < records {
         return true;
     }
     if vertices < 4 {
@@ -65,81 +56,87 @@ fn plain_header(job: u32, coordinates: &[i16], corners: &[u16]) -> Header
     }
 }
 
-fn put_vertices(mesh: &mut [u8], coordinates: &[i16], count: u32)
-    ensures { λ _. ⌜ now (mesh .exit) ≡ verticesPut (now (mesh .entry)) (now (coordinates .entry)) count ⌝ }
+fn put_vertices(base: &mut [u8], grown: &mut [u8], vertices: u32, records: u32, coordinates: &[i16])
+    ensures { λ _. ⌜ now (base .exit) ≡ verticesPut (now (base .entry)) (now (coordinates .entry)) vertices ⌝ }
+    ensures { λ _. ⌜ now (grown .exit) ≡ now (grown .entry) ⌝ }
 {
+    let l = stored::working_layout(vertices, records);
     let mut i: u32 = 0;
-    while i < count {
-        stored_written::put_mesh_vertex(mesh, i, build_marks::plain_vertex(coordinates, i));
+    while i < vertices {
+        stored_written::put_vertex(
+            l,
+            base,
+            grown,
+            i as usize,
+            build_marks::plain_vertex(coordinates, i),
+        );
         i += 1;
     }
 }
 
-fn put_records(mesh: &mut [u8], coordinates: &[i16], corners: &[u16], vertices: u32, count: u32)
-    ensures { λ _. ⌜ now (mesh .exit) ≡ recordsPut (now (mesh .entry)) (now (coordinates .entry)) (now (corners .entry)) vertices count ⌝ }
+fn put_records(
+    base: &mut [u8],
+    grown: &mut [u8],
+    vertices: u32,
+    records: u32,
+    coordinates: &[i16],
+    corners: &[u16],
+)
+    ensures { λ _. ⌜ now (base .exit) ≡ now (base .entry) ⌝ }
+    ensures { λ _. ⌜ now (grown .exit) ≡ recordsPut (now (grown .entry)) (now (coordinates .entry)) (now (corners .entry)) records ⌝ }
 {
+    let l = stored::working_layout(vertices, records);
     let mut i: u32 = 0;
-    while i < count {
-        stored_written::put_mesh_record(
-            mesh,
-            vertices,
-            i,
+    while i < records {
+        stored_written::put_record(
+            l,
+            base,
+            grown,
+            i as usize,
             build_marks::plain_record(coordinates, corners, i),
         );
         i += 1;
     }
 }
 
-fn put_mesh(mesh: &mut [u8], h: Header, coordinates: &[i16], corners: &[u16])
-    ensures { λ _. ⌜ now (mesh .exit) ≡ meshPut (now (mesh .entry)) h (now (coordinates .entry)) (now (corners .entry)) ⌝ }
-{
-    stored_written::put_header(mesh, h);
-    put_vertices(mesh, coordinates, h.vertices);
-    put_records(mesh, coordinates, corners, h.vertices, h.records);
-}
-
 // Check's own rules 4, 5, 7 and 8, and 0 where none is broken.
-fn judged(mesh: &[u8]) -> u32
-    requires { ⌜ Bounded (headerOf (now mesh)) ⌝ }
-    ensures { λ r. ⌜ r ≡ judgedNumber (tablesOf (now (mesh .entry))) ⌝ }
+fn judged<'a>(h: Header, l: Layout, base: &'a [u8], grown: &'a [u8]) -> u32
+    ensures { λ r. ⌜ r ≡ judgedNumber (tables h l (now (base .entry)) (now (grown .entry))) ⌝ }
 {
-    let h = stored_headers::header_of(mesh);
-    let vertices = stored::vertices_of(mesh);
-    let records = stored::records_of(mesh);
-    if check_places::bad_vertices(h, vertices, records) {
+    if check_places::bad_vertices(h, l, base, grown) {
         return 4;
     }
-    if check_pieces::bad_base_records(h, vertices, records) {
+    if check_pieces::bad_base_records(h, l, base, grown) {
         return 5;
     }
-    if check_faces::bad_base_faces(h, vertices, records) {
+    if check_faces::bad_base_faces(h, l, base, grown) {
         return 7;
     }
-    if check_uses::unused_vertices(h, vertices, records) {
+    if check_uses::unused_vertices(h, l, base, grown) {
         return 8;
     }
     0
 }
 
-// Judges the mesh, and stores it where it is accepted and there is room.
-fn finish(mesh: &[u8], out: &mut [u8]) -> u32
-    requires { ⌜ Bounded (headerOf (now mesh)) ⌝ }
-    requires { ⌜ now out ≡ replicate (length (now out)) 0 ⌝ }
-    ensures { λ r. ⌜ r ≡ laterNumber (now (mesh .entry)) (length (now (out .entry))) ⌝ }
-    ensures { λ _. ⌜ now (out .exit) ≡ laterBytes (now (mesh .entry)) (length (now (out .entry))) ⌝ }
+// Judges the tables, and stores the mesh where it is accepted and there is room.
+fn finish<'a>(h: Header, vertices: &'a [u8], records: &'a [u8], out: &mut [u8]) -> u32
+    requires { ⌜ Ready h (now vertices) (now records) (now out) ⌝ }
+    ensures { λ r. ⌜ r ≡ laterNumber (assembled h (now (vertices .entry)) (now (records .entry))) (length (now (out .entry))) ⌝ }
+    ensures { λ _. ⌜ now (out .exit) ≡ laterBytes (assembled h (now (vertices .entry)) (now (records .entry))) (length (now (out .entry))) ⌝ }
 {
-    let found = judged(mesh);
+    let l = stored::working_layout(h.vertices, h.records);
+    let found = judged(h, l, vertices, records);
     if found != 0 {
         return found;
     }
-    if out.len() < mesh.len() {
+    if out.len() < stored_headers::mesh_length(h.vertices, h.records) {
         return 20;
     }
-    slices_written::put(out, 0, mesh);
+    stored_written::put_mesh(out, h, vertices, records);
     0
 }
 
-// The mesh is made aside, since there may be no room for it.
+// The tables are made aside, since there may be no room for them.
 fn store(job: u32, coordinates: &[i16], corners: &[u16], out: &mut [u8]) -> u32
     requires { ⌜ wrongCounts limits (plainHeader job (now coordinates) (now corners)) ≡ false ⌝ }
     requires { ⌜ now out ≡ replicate (length (now out)) 0 ⌝ }
@@ -147,21 +144,35 @@ fn store(job: u32, coordinates: &[i16], corners: &[u16], out: &mut [u8]) -> u32
     ensures { λ _. ⌜ now (out .exit) ≡ laterBytes (plainBytes job (now (coordinates .entry)) (now (corners .entry))) (length (now (out .entry))) ⌝ }
 {
     let h = plain_header(job, coordinates, corners);
-    let mut work = [0u8; stored::LARGEST];
-    put_mesh(&mut work, h, coordinates, corners);
-    let n = stored_headers::mesh_length(h.vertices, h.records);
-    finish(&work[..n], out)
+    let mut vertices = [0u8; stored::VERTEX_BYTES];
+    let mut records = [0u8; stored::RECORD_BYTES];
+    put_vertices(
+        &mut vertices,
+        &mut records,
+        h.vertices,
+        h.records,
+        coordinates,
+    );
+    put_records(
+        &mut vertices,
+        &mut records,
+        h.vertices,
+        h.records,
+        coordinates,
+        corners,
+    );
+    finish(h, &vertices, &records, out)
 }
 
 pub fn build(job: u32, coordinates: &[i16], corners: &[u16], out: &mut [u8]) -> u32
     ensures { λ r. ⌜ r ≡ buildNumber job (now (coordinates .entry)) (now (corners .entry)) (length (now (out .entry))) ⌝ }
     ensures { λ _. ⌜ now (out .exit) ≡ buildBytes job (now (coordinates .entry)) (now (corners .entry)) (length (now (out .entry))) ⌝ }
 {
-    clear(out);
+    slices_written::clear(out);
     if not_whole(coordinates, corners) {
         return 21;
     }
-    if wrong_counts(coordinates, corners) {
+    if wrong_counts(stored::limits_of_version_1(), coordinates, corners) {
         return 3;
     }
     store(job, coordinates, corners, out)

@@ -9,7 +9,7 @@ use borrow.Author.Tests.{eqb-true}
 use Rattle.laws.specs.Below.{anyBelow, any-is, any-where, any-fails, all-at, countBelow, count-none, count-suc, bit, and-left, and-right, or-second, either}
 use Rattle.piece.specs.declared.Piece.{Piece}
 use Rattle.piece.specs.Ends.{cornerAt}
-use Rattle.check_refusals.specs.Tables.{Tables}
+use Rattle.stored.specs.declared.Record.{Record}
 use Rattle.check_refusals.specs.Refusals.{hasCorner, faceHas, faceWithin, sameFace, cornersWithin, sameCorners, twoMarksOn, twoMarks, hasFace, faceBefore, faceInThree, badTogether}
 
 -- How many of p's corners q has.
@@ -67,12 +67,12 @@ module _ (p q : Piece) where
   fails false h few = refl
 
   -- Two pieces that share fewer than three corners are never bad together.
-  pub few-shared : (m : Tables) (r : ℕ) → sharedCorners p q < 3 → badTogether m q r p ≡ false
+  pub few-shared : (recordAt : ℕ → Record) (r : ℕ) → sharedCorners p q < 3 → badTogether recordAt q r p ≡ false
   unfolding badTogether faceInThree hasFace twoMarks twoMarksOn
-  few-shared m r few =
+  few-shared recordAt r few =
       let faces : (j i : ℕ) → sameFace p j q i ≡ false = λ j i. fails (sameFace p j q i) (face-shares j i) few in
       rw (
-        any-fails (λ i. hasFace q i p && faceBefore m q i r) 4 (λ i l. rw (any-fails (λ j. sameFace p j q i) 4 (λ j b. faces j i))),
+        any-fails (λ i. hasFace q i p && faceBefore recordAt q i r) 4 (λ i l. rw (any-fails (λ j. sameFace p j q i) 4 (λ j b. faces j i))),
         fails (sameCorners p q) corners-share few,
         any-fails (λ i. anyBelow 4 (twoMarksOn p i q)) 4 (λ i l. any-fails (twoMarksOn p i q) 4 (λ j b. rw (faces i j))),
       )

@@ -2,6 +2,7 @@
 use piece::Ends;
 use piece::Piece;
 use stored::Header;
+use stored::Layout;
 ghost use mathlib.Core.Path.{_≡_};
 ghost use mathlib.Core.Bool.{not, _&&_, _||_};
 ghost use lib.Dec.{eqb};
@@ -176,20 +177,27 @@ fn has_face(q: Piece, i: u8, p: Piece) -> bool
     false
 }
 
-fn record_has_face(records: &[u8], q: Piece, i: u8, s: usize) -> bool
-    ensures { λ r. ⌜ r ≡ hasFace q i (recordIn (now (records .entry)) s .piece) ⌝ }
+fn record_has_face<'a>(
+    l: Layout,
+    base: &'a [u8],
+    grown: &'a [u8],
+    q: Piece,
+    i: u8,
+    s: usize,
+) -> bool
+    ensures { λ r. ⌜ r ≡ hasFace q i (recordIn l (now (base .entry)) (now (grown .entry)) s .piece) ⌝ }
 {
-    let record = stored_entries::record_in(records, s);
+    let record = stored_entries::record_in(l, base, grown, s);
     let p = record.piece;
     has_face(q, i, p)
 }
 
-fn face_before(h: Header, vertices: &[u8], records: &[u8], q: Piece, i: u8, r: usize) -> bool
-    ensures { λ b. ⌜ b ≡ faceBefore (tables h (now (vertices .entry)) (now (records .entry))) q i r ⌝ }
+fn face_before<'a>(l: Layout, base: &'a [u8], grown: &'a [u8], q: Piece, i: u8, r: usize) -> bool
+    ensures { λ b. ⌜ b ≡ faceBefore (recordIn l (now (base .entry)) (now (grown .entry))) q i r ⌝ }
 {
     let mut s: usize = 0;
     while s < r {
-        if record_has_face(records, q, i, s) {
+        if record_has_face(l, base, grown, q, i, s) {
             return true;
         }
         s += 1;
@@ -197,21 +205,36 @@ fn face_before(h: Header, vertices: &[u8], records: &[u8], q: Piece, i: u8, r: u
     false
 }
 
-fn third_at(h: Header, vertices: &[u8], records: &[u8], q: Piece, r: usize, p: Piece, i: u8) -> bool
-    ensures { λ b. ⌜ b ≡ (hasFace q i p && faceBefore (tables h (now (vertices .entry)) (now (records .entry))) q i r) ⌝ }
+fn third_at<'a>(
+    l: Layout,
+    base: &'a [u8],
+    grown: &'a [u8],
+    q: Piece,
+    r: usize,
+    p: Piece,
+    i: u8,
+) -> bool
+    ensures { λ b. ⌜ b ≡ (hasFace q i p && faceBefore (recordIn l (now (base .entry)) (now (grown .entry))) q i r) ⌝ }
 {
     if has_face(q, i, p) {
-        return face_before(h, vertices, records, q, i, r);
+        return face_before(l, base, grown, q, i, r);
     }
     false
 }
 
-fn face_in_three(h: Header, vertices: &[u8], records: &[u8], q: Piece, r: usize, p: Piece) -> bool
-    ensures { λ b. ⌜ b ≡ faceInThree (tables h (now (vertices .entry)) (now (records .entry))) q r p ⌝ }
+fn face_in_three<'a>(
+    l: Layout,
+    base: &'a [u8],
+    grown: &'a [u8],
+    q: Piece,
+    r: usize,
+    p: Piece,
+) -> bool
+    ensures { λ b. ⌜ b ≡ faceInThree (recordIn l (now (base .entry)) (now (grown .entry))) q r p ⌝ }
 {
     let mut i: u8 = 0;
     while i < 4 {
-        if third_at(h, vertices, records, q, r, p, i) {
+        if third_at(l, base, grown, q, r, p, i) {
             return true;
         }
         i += 1;
@@ -238,13 +261,20 @@ fn one_if(b: bool) -> u32
 }
 
 // Most pairs of records share fewer than three corners and need no closer look.
-fn bad_together(h: Header, vertices: &[u8], records: &[u8], q: Piece, r: usize, p: Piece) -> bool
-    ensures { λ b. ⌜ b ≡ badTogether (tables h (now (vertices .entry)) (now (records .entry))) q r p ⌝ }
+fn bad_together<'a>(
+    l: Layout,
+    base: &'a [u8],
+    grown: &'a [u8],
+    q: Piece,
+    r: usize,
+    p: Piece,
+) -> bool
+    ensures { λ b. ⌜ b ≡ badTogether (recordIn l (now (base .entry)) (now (grown .entry))) q r p ⌝ }
 {
     if shared_corners(p, q) < 3 {
         return false;
     }
-    if face_in_three(h, vertices, records, q, r, p) {
+    if face_in_three(l, base, grown, q, r, p) {
         return true;
     }
     if same_corners(p, q) {
@@ -253,20 +283,20 @@ fn bad_together(h: Header, vertices: &[u8], records: &[u8], q: Piece, r: usize, 
     two_marks(p, q)
 }
 
-fn bad_at(h: Header, vertices: &[u8], records: &[u8], q: Piece, r: usize) -> bool
-    ensures { λ b. ⌜ b ≡ badTogether (tables h (now (vertices .entry)) (now (records .entry))) q r (recordIn (now (records .entry)) r .piece) ⌝ }
+fn bad_at<'a>(l: Layout, base: &'a [u8], grown: &'a [u8], q: Piece, r: usize) -> bool
+    ensures { λ b. ⌜ b ≡ badTogether (recordIn l (now (base .entry)) (now (grown .entry))) q r (recordIn l (now (base .entry)) (now (grown .entry)) r .piece) ⌝ }
 {
-    let record = stored_entries::record_in(records, r);
+    let record = stored_entries::record_in(l, base, grown, r);
     let p = record.piece;
-    bad_together(h, vertices, records, q, r, p)
+    bad_together(l, base, grown, q, r, p)
 }
 
-fn bad_with(h: Header, vertices: &[u8], records: &[u8], q: Piece, n: usize) -> bool
-    ensures { λ b. ⌜ b ≡ badWith (tables h (now (vertices .entry)) (now (records .entry))) q n ⌝ }
+fn bad_with<'a>(l: Layout, base: &'a [u8], grown: &'a [u8], q: Piece, n: usize) -> bool
+    ensures { λ b. ⌜ b ≡ badWith (recordIn l (now (base .entry)) (now (grown .entry))) q n ⌝ }
 {
     let mut r: usize = 0;
     while r < n {
-        if bad_at(h, vertices, records, q, r) {
+        if bad_at(l, base, grown, q, r) {
             return true;
         }
         r += 1;
@@ -274,21 +304,21 @@ fn bad_with(h: Header, vertices: &[u8], records: &[u8], q: Piece, n: usize) -> b
     false
 }
 
-fn bad_faces(h: Header, vertices: &[u8], records: &[u8], n: usize) -> bool
-    ensures { λ b. ⌜ b ≡ badFaces (tables h (now (vertices .entry)) (now (records .entry))) n ⌝ }
+fn bad_faces<'a>(l: Layout, base: &'a [u8], grown: &'a [u8], n: usize) -> bool
+    ensures { λ b. ⌜ b ≡ badFaces (recordIn l (now (base .entry)) (now (grown .entry))) n ⌝ }
 {
-    let record = stored_entries::record_in(records, n);
+    let record = stored_entries::record_in(l, base, grown, n);
     let q = record.piece;
-    bad_with(h, vertices, records, q, n)
+    bad_with(l, base, grown, q, n)
 }
 
-pub fn bad_base_faces(h: Header, vertices: &[u8], records: &[u8]) -> bool
-    ensures { λ b. ⌜ b ≡ badBaseFaces (tables h (now (vertices .entry)) (now (records .entry))) ⌝ }
+pub fn bad_base_faces<'a>(h: Header, l: Layout, base: &'a [u8], grown: &'a [u8]) -> bool
+    ensures { λ b. ⌜ b ≡ badBaseFaces (tables h l (now (base .entry)) (now (grown .entry))) ⌝ }
 {
     let count = h.base_records as usize;
     let mut n: usize = 0;
     while n < count {
-        if bad_faces(h, vertices, records, n) {
+        if bad_faces(l, base, grown, n) {
             return true;
         }
         n += 1;

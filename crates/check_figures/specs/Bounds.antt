@@ -12,33 +12,33 @@ use Rattle.grid.specs.declared.Place.{Place}
 use Rattle.grid.specs.PlaceLaws.{Held}
 use Rattle.grid_volume.specs.Volume.{sixfoldOf, differencesOf}
 use Rattle.grid_volume.specs.VolumeLaws.{sixfold-within}
-use Rattle.stored.specs.declared.Header.{Header}
-use Rattle.stored.specs.Layout.{vertexIn, vertexFrom}
-use Rattle.check_refusals.specs.Tables.{Tables, tables, allRecords, isLeaf, pieceAt, sixfoldAt}
-use Rattle.check_refusals.specs.Refusals.{limits}
+use Rattle.stored.specs.declared.Layout.{Layout}
+use Rattle.stored.specs.declared.Record.{Record}
+use Rattle.stored.specs.Layout.{limits, vertexIn, vertexFrom}
+use Rattle.check_refusals.specs.Tables.{Tables, allRecords, uncut, sixfoldAt}
 use Rattle.check_refusals.specs.Check.{leafSixfold, sixfold}
+use Rattle.grid.specs.Places.{greatestPlace}
 
 -- Every place that is read is a u16.
-place-held : (t : List ℕ) (v : ℕ) → Held (vertexIn t v .place)
+place-held : (l : Layout) (base grown : List ℕ) (v : ℕ) → Held (vertexIn l base grown v .place)
 unfolding vertexIn vertexFrom
-place-held t v = record { x = omega arith; y = omega arith; z = omega arith }
+place-held l base grown v = record { x = omega arith; y = omega arith; z = omega arith }
 
 abbrev pub most : ℕ
-most = 6 * 65535 ^ 3
+most = 6 * greatestPlace ^ 3
 
 -- A piece's sixfold volume, whatever its corners.
-pub sixfold-at-most : (h : Header) (vertices records : List ℕ) (p : Piece) → sixfoldAt (tables h vertices records) p ≤ most
+pub sixfold-at-most : (l : Layout) (base grown : List ℕ) (p : Piece) → sixfoldAt (vertexIn l base grown) p ≤ most
 unfolding sixfoldAt sixfoldOf differencesOf
-sixfold-at-most h vertices records p =
-    let at : (k : ℕ) → Place = λ k. vertexIn vertices (cornerAt p k) .place in
-    sixfold-within (at 0) (at 1) (at 2) (at 3) (place-held vertices (cornerAt p 0)) (place-held vertices (cornerAt p 1)) (place-held vertices (cornerAt p 2)) (place-held vertices (cornerAt p 3))
+sixfold-at-most l base grown p =
+    let at : (k : ℕ) → Place = λ k. vertexIn l base grown (cornerAt p k) .place in
+    sixfold-within (at 0) (at 1) (at 2) (at 3) (place-held l base grown (cornerAt p 0)) (place-held l base grown (cornerAt p 1)) (place-held l base grown (cornerAt p 2)) (place-held l base grown (cornerAt p 3))
 
 -- A leaf's sixfold volume, and what is no leaf's.
-pub leaf-at-most : (h : Header) (vertices records : List ℕ) (n : ℕ) → leafSixfold (tables h vertices records) n ≤ most
+pub leaf-at-most : (l : Layout) (base grown : List ℕ) (r : Record) → leafSixfold (vertexIn l base grown) r ≤ most
 unfolding leafSixfold
-leaf-at-most h vertices records n =
-    let m = tables h vertices records in
-    go (isLeaf m n) (sixfoldAt m (pieceAt m n)) (sixfold-at-most h vertices records (pieceAt m n))
+leaf-at-most l base grown r =
+    go (uncut r) (sixfoldAt (vertexIn l base grown) (r .piece)) (sixfold-at-most l base grown (r .piece))
   where
     go : (b : Bool) (x : ℕ) → x ≤ most → cond b x 0 ≤ most
     go true x l = l

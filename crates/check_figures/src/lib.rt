@@ -1,8 +1,10 @@
 // Leaves, greatest leaf generation and summed sixfold volume of the leaves.
 use stored::Header;
+use stored::Layout;
 ghost use mathlib.Core.Path.{_≡_};
 ghost use Prim.Native.Nat.{max, _≤_};
 ghost use Rattle.laws.specs.Below.{bit};
+ghost use Rattle.stored.specs.Layout.{limits, vertexIn, recordIn};
 ghost use Rattle.check_refusals.specs.Tables.{tables};
 ghost use Rattle.check_figures.specs.Bounds.{sixfoldWithin};
 ghost use Rattle.check_refusals.specs.Check.{leaves, leafGeneration, deepest, leafSixfold, sixfold};
@@ -13,24 +15,24 @@ fn one_if(b: bool) -> u64
     if b { 1 } else { 0 }
 }
 
-pub fn leaves_of(h: Header, vertices: &[u8], records: &[u8]) -> u64
-    ensures { λ r. ⌜ r ≡ leaves (tables h (now (vertices .entry)) (now (records .entry))) ⌝ }
+pub fn leaves_of<'a>(h: Header, l: Layout, base: &'a [u8], grown: &'a [u8]) -> u64
+    ensures { λ r. ⌜ r ≡ leaves (tables h l (now (base .entry)) (now (grown .entry))) ⌝ }
 {
     let count = h.records as usize;
     let mut n: usize = 0;
     let mut total: u64 = 0;
     while n < count {
-        total += one_if(check_refusals::is_leaf(h, vertices, records, n));
+        total += one_if(check_refusals::is_leaf(l, base, grown, n));
         n += 1;
     }
     total
 }
 
-fn leaf_generation(h: Header, vertices: &[u8], records: &[u8], n: usize) -> u64
-    ensures { λ r. ⌜ r ≡ leafGeneration (tables h (now (vertices .entry)) (now (records .entry))) n ⌝ }
+fn leaf_generation<'a>(l: Layout, base: &'a [u8], grown: &'a [u8], n: usize) -> u64
+    ensures { λ r. ⌜ r ≡ leafGeneration (recordIn l (now (base .entry)) (now (grown .entry)) n) ⌝ }
 {
-    if check_refusals::is_leaf(h, vertices, records, n) {
-        let record = stored_entries::record_in(records, n);
+    if check_refusals::is_leaf(l, base, grown, n) {
+        let record = stored_entries::record_in(l, base, grown, n);
         let p = record.piece;
         return p.generation as u64;
     }
@@ -43,50 +45,50 @@ fn greater(a: u64, b: u64) -> u64
     if a < b { b } else { a }
 }
 
-pub fn deepest_of(h: Header, vertices: &[u8], records: &[u8]) -> u64
-    ensures { λ r. ⌜ r ≡ deepest (tables h (now (vertices .entry)) (now (records .entry))) ⌝ }
+pub fn deepest_of<'a>(h: Header, l: Layout, base: &'a [u8], grown: &'a [u8]) -> u64
+    ensures { λ r. ⌜ r ≡ deepest (tables h l (now (base .entry)) (now (grown .entry))) ⌝ }
 {
     let count = h.records as usize;
     let mut n: usize = 0;
     let mut found: u64 = 0;
     while n < count {
-        found = greater(found, leaf_generation(h, vertices, records, n));
+        found = greater(found, leaf_generation(l, base, grown, n));
         n += 1;
     }
     found
 }
 
-fn leaf_sixfold(h: Header, vertices: &[u8], records: &[u8], n: usize) -> u64
-    ensures { λ r. ⌜ r ≡ leafSixfold (tables h (now (vertices .entry)) (now (records .entry))) n ⌝ }
+fn leaf_sixfold<'a>(l: Layout, base: &'a [u8], grown: &'a [u8], n: usize) -> u64
+    ensures { λ r. ⌜ r ≡ leafSixfold (vertexIn l (now (base .entry)) (now (grown .entry))) (recordIn l (now (base .entry)) (now (grown .entry)) n) ⌝ }
 {
-    if check_refusals::is_leaf(h, vertices, records, n) {
-        let record = stored_entries::record_in(records, n);
+    if check_refusals::is_leaf(l, base, grown, n) {
+        let record = stored_entries::record_in(l, base, grown, n);
         let p = record.piece;
-        return check_refusals::sixfold_of(h, vertices, records, p);
+        return check_refusals::sixfold_of(l, base, grown, p);
     }
     0
 }
 
-fn sixfold_sum(h: Header, vertices: &[u8], records: &[u8]) -> u64
-    requires { ⌜ h .records ≤ 3072 ⌝ }
-    ensures { λ r. ⌜ r ≡ sixfold (tables h (now (vertices .entry)) (now (records .entry))) ⌝ }
+fn sixfold_sum<'a>(h: Header, l: Layout, base: &'a [u8], grown: &'a [u8]) -> u64
+    requires { ⌜ h .records ≤ limits .records ⌝ }
+    ensures { λ r. ⌜ r ≡ sixfold (tables h l (now (base .entry)) (now (grown .entry))) ⌝ }
 {
     let count = h.records as usize;
     let mut n: usize = 0;
     let mut total: u64 = 0;
     while n < count {
-        total += leaf_sixfold(h, vertices, records, n);
+        total += leaf_sixfold(l, base, grown, n);
         n += 1;
     }
     total
 }
 
 // A u64 holds the sum over as many records as a mesh may have; more are refused with 3.
-pub fn sixfold_within(h: Header, vertices: &[u8], records: &[u8]) -> u64
-    ensures { λ r. ⌜ r ≡ sixfoldWithin (tables h (now (vertices .entry)) (now (records .entry))) ⌝ }
+pub fn sixfold_within<'a>(h: Header, l: Layout, base: &'a [u8], grown: &'a [u8]) -> u64
+    ensures { λ r. ⌜ r ≡ sixfoldWithin (tables h l (now (base .entry)) (now (grown .entry))) ⌝ }
 {
-    if 3072 < h.records {
+    if stored::RECORDS < h.records as usize {
         return 0;
     }
-    sixfold_sum(h, vertices, records)
+    sixfold_sum(h, l, base, grown)
 }

@@ -1,6 +1,7 @@
 // Refusal 10: the first leaf edge found hanging, by record and then edge code.
 use piece::Ends;
 use stored::Header;
+use stored::Layout;
 ghost use mathlib.Core.Path.{_≡_};
 ghost use Rattle.piece.specs.Ends.{endsOf};
 ghost use Rattle.stored.specs.Layout.{recordIn};
@@ -13,33 +14,33 @@ pub enum Found {
     Nothing,
 }
 
-fn ends_at(records: &[u8], n: usize, e: u8) -> Ends
-    ensures { λ r. ⌜ r ≡ endsOf (recordIn (now (records .entry)) n .piece) e ⌝ }
+fn ends_at<'a>(l: Layout, base: &'a [u8], grown: &'a [u8], n: usize, e: u8) -> Ends
+    ensures { λ r. ⌜ r ≡ endsOf (recordIn l (now (base .entry)) (now (grown .entry)) n .piece) e ⌝ }
 {
-    let record = stored_entries::record_in(records, n);
+    let record = stored_entries::record_in(l, base, grown, n);
     let p = record.piece;
     piece::ends_of(p, e)
 }
 
 // The search over records, six edge codes and made vertices, left with the place found.
-pub fn first_hanging(h: Header, vertices: &[u8], records: &[u8]) -> Found
-    ensures { λ r. ⌜ r ≡ foundOf (tables h (now (vertices .entry)) (now (records .entry))) ⌝ }
+pub fn first_hanging<'a>(h: Header, l: Layout, base: &'a [u8], grown: &'a [u8]) -> Found
+    ensures { λ r. ⌜ r ≡ foundOf (tables h l (now (base .entry)) (now (grown .entry))) ⌝ }
 {
     let all_records = h.records as usize;
     let all_vertices = h.vertices as usize;
     let mut found = Found::Nothing;
     let mut n: usize = 0;
     'search: while n < all_records {
-        if !check_refusals::is_leaf(h, vertices, records, n) {
+        if !check_refusals::is_leaf(l, base, grown, n) {
             n += 1;
             continue 'search;
         }
         let mut e: u8 = 0;
         while e < 6 {
-            let ends = ends_at(records, n, e);
+            let ends = ends_at(l, base, grown, n, e);
             let mut v: usize = 0;
             while v < all_vertices {
-                if check_parents::has_parents(h, vertices, records, ends, v) {
+                if check_parents::has_parents(h, l, base, grown, ends, v) {
                     found = Found::At(n, e);
                     break 'search;
                 }

@@ -9,15 +9,15 @@ use lib.IntN.{ℤ, natAbs}
 use Rattle.algebra.specs.Multiple.{Multiple}
 use Rattle.piece.specs.declared.Piece.{Piece}
 use Rattle.piece.specs.declared.Ends.{Ends}
-use Rattle.piece.specs.Shape.{shapeOf, mark}
+use Rattle.piece_edges.specs.Edges.{lowSlot, highSlot}
+use Rattle.piece.specs.Shape.{lastGeneration, shapeOf, mark}
 use Rattle.piece.specs.Ends.{cornerAt, endsOf}
 use Rattle.piece_cut.specs.Cut.{cutOf}
-use Rattle.piece_cut.specs.Theorems.{Valid}
 use Rattle.grid.specs.Places.{Point, pointOf}
 use Rattle.grid.specs.Corners.{Midpoint}
-use Rattle.stored.specs.Layout.{none, headerWidth, meshLength, byteAt, u16At}
+use Rattle.stored.specs.declared.Limits.{Limits}
+use Rattle.stored.specs.Layout.{none, limits, headerWidth, meshLength, byteAt, u16At}
 use Rattle.check_refusals.specs.Tables.{Tables, tablesOf, baseVertices, allVertices, baseRecords, allRecords, pieceAt, refinementEnds, sixfoldAt}
-use Rattle.check_refusals.specs.Refusals.{limits}
 
 -- ---- 1 and 2: the bytes
 
@@ -39,10 +39,12 @@ pub record RightMark (s : List ℕ) : Type 0 where
 
 -- ---- 3: the counts
 
+-- "At most 1,024 vertices and 3,072 records", or as many as other limits have it.
+pub record Within (most : Limits) (m : Tables) : Type 0 where
+  pub vertices : allVertices m ≤ most .vertices
+  pub records : allRecords m ≤ most .records
+
 pub record RightCounts (m : Tables) : Type 0 where
-  -- "At most 1,024 vertices and 3,072 records"
-  pub vertices : allVertices m ≤ limits .vertices
-  pub records : allRecords m ≤ limits .records
   -- "at least 4 base vertices and 1 base record"
   pub base-vertices : 4 ≤ baseVertices m
   pub base-records : 1 ≤ baseRecords m
@@ -72,7 +74,7 @@ pub record BaseVertex (m : Tables) (v : ℕ) : Type 0 where
   pub x : OnGrid (pointAt m v .x)
   pub y : OnGrid (pointAt m v .y)
   pub z : OnGrid (pointAt m v .z)
-  -- "Base vertices [..] have 65,535 for both parents."
+  -- "Base vertices [..] have 65,535 for both parents.": none
   pub p : parentP m v ≡ none
   pub q : parentQ m v ≡ none
 
@@ -106,7 +108,7 @@ pub record BaseRecord (m : Tables) (n : ℕ) : Type 0 where
   -- no "corner not in the base"
   pub in-base : (k : ℕ) → k < 4 → cornerAt (pieceAt m n) k < baseVertices m
   -- no "sixfold volume 0"
-  pub volume : sixfoldAt m (pieceAt m n) ≢ 0
+  pub volume : sixfoldAt (m .vertexAt) (pieceAt m n) ≢ 0
   -- no "generation or flag not 0"
   pub generation : pieceAt m n .generation ≡ 0
   pub flag : pieceAt m n .flag ≡ 0
@@ -114,10 +116,24 @@ pub record BaseRecord (m : Tables) (n : ℕ) : Type 0 where
 abbrev pub RightBaseRecords : Tables → Type 0
 RightBaseRecords m = (n : ℕ) → n < baseRecords m → BaseRecord m n
 
+-- Edge e is an edge of face i, "the face without slot i": neither end has slot i.
+pub record EdgeOf (i e : ℕ) : Type 0 where
+  pub code : e < 6
+  pub low : lowSlot e ≢ i
+  pub high : highSlot e ≢ i
+
 -- "A piece carries a refinement edge, one marked edge for each face (an edge of that face) [..]. Both faces that contain the refinement
 -- edge are marked with it."
+pub record RightMarks (p : Piece) : Type 0 where
+  -- no "edge code above 5"
+  pub edge : p .edge < 6
+  -- no "mark not on its face"
+  pub marks : (i : ℕ) → i < 4 → EdgeOf i (mark (shapeOf p) i)
+  -- no "refinement face not marked with the refinement edge"
+  pub refinement-faces : (i : ℕ) → i < 4 → EdgeOf i (p .edge) → mark (shapeOf p) i ≡ p .edge
+
 abbrev pub RightBaseMarks : Tables → Type 0
-RightBaseMarks m = (n : ℕ) → n < baseRecords m → Valid (shapeOf (pieceAt m n))
+RightBaseMarks m = (n : ℕ) → n < baseRecords m → RightMarks (pieceAt m n)
 
 -- ---- 7: the faces of the base records; faces and pieces are sets of corner numbers
 
@@ -156,7 +172,7 @@ RightUses m = (v : ℕ) → v < baseVertices m → (n : ℕ) × (n < baseRecords
 
 -- ---- 9: the cuts
 
--- "number of the first child (u16; 65,535 if uncut)"
+-- "number of the first child (u16; 65,535 if uncut)": none if uncut
 abbrev pub firstChild : Tables → ℕ → ℕ
 firstChild m n = m .recordAt n .«first_child»
 
@@ -177,7 +193,7 @@ pub record RightCut (m : Tables) (n : ℕ) : Type 0 where
   -- "Let w be the midpoint of the refinement edge": the made vertex that has its two ends as parents
   pub w : ℕ
   pub made : Made m w
-  pub parents : HasParents m (refinementEnds m n) w
+  pub parents : HasParents m (refinementEnds (pieceAt m n)) w
   -- the children are there, and "have greater numbers"
   pub above : n < firstChild m n
   pub there : firstChild m n + 1 < allRecords m
@@ -203,9 +219,9 @@ pub record RightCuts (m : Tables) : Type 0 where
   -- no "record beyond the base that isn't the child of exactly one"
   pub one-parent : (c : ℕ) → baseRecords m ≤ c → c < allRecords m → ExactlyOne (allRecords m) (ChildOf m c)
   -- no "generation above 15"
-  pub generations : (n : ℕ) → n < allRecords m → pieceAt m n .generation ≤ 15
+  pub generations : (n : ℕ) → n < allRecords m → pieceAt m n .generation ≤ lastGeneration
   -- no "made vertex that is the midpoint of no cut record's refinement edge"
-  pub midpoints : (v : ℕ) → Made m v → (n : ℕ) × (n < allRecords m) × Cut m n × HasParents m (refinementEnds m n) v
+  pub midpoints : (v : ℕ) → Made m v → (n : ℕ) × (n < allRecords m) × Cut m n × HasParents m (refinementEnds (pieceAt m n)) v
 
 -- ---- 10: no "hanging edge"
 
@@ -215,9 +231,9 @@ NoneHangs m = (n : ℕ) → n < allRecords m → Leaf m n → (e : ℕ) → e < 
 
 -- ---- all ten
 
--- 3 to 9: what holds also of a mesh in which edges hang.
+-- 3 to 9, but for how many vertices and records there may be: what holds also of a mesh in which edges hang, and under any limits.
 pub record RightMesh (m : Tables) : Type 0 where
-  -- 3: no "count beyond its bounds, or base above all"
+  -- 3: at least 4 base vertices and 1 base record, no "base above all"
   pub counts : RightCounts m
   -- 4: base vertices are on the grid, made ones halfway between their parents, and no place and no parent pair comes twice
   pub vertices : RightVertices m
@@ -237,7 +253,9 @@ pub record Accepted (s : List ℕ) : Type 0 where
   pub length : RightLength s
   -- 2: no "wrong mark or version", and byte 19 is 0
   pub mark : RightMark s
-  -- 3 to 9
+  -- 3: "at most 1,024 vertices and 3,072 records"
+  pub limits : Within limits (tablesOf s)
+  -- the rest of 3, and 4 to 9
   pub mesh : RightMesh (tablesOf s)
   -- 10: no "hanging edge"
   pub none-hangs : NoneHangs (tablesOf s)

@@ -7,14 +7,13 @@ use native.Mathlib.Omega.{arith}
 use lib.ListN.{length}
 use Rattle.laws.specs.Below.{anyBelow, allBelow}
 use Rattle.piece.specs.declared.Piece.{Piece}
-use Rattle.piece_edges.specs.Edges.{lowSlot, highSlot}
-use Rattle.piece.specs.Shape.{shapeOf, mark, markFits, flagFits, validShape}
+use Rattle.piece_edges.specs.Edges.{lowSlot, highSlot, slots-small, hasSlot, onFace}
+use Rattle.piece.specs.Shape.{Shape, shapeOf, mark, markFits, flagFits, validShape, Valid}
 use Rattle.piece.specs.Ends.{cornerAt}
-use Rattle.piece_cut.specs.Theorems.{Valid, slots-small}
 use Rattle.check_refusals.specs.Tables.{Tables, baseVertices, baseRecords, pieceAt, sixfoldAt}
-use Rattle.check_refusals.specs.Refusals.{equalCorners, cornerNotInBase, badPiece, badBaseRecord, badBaseRecords, badMarks, badlyMarked, badBaseMarks}
-use Rattle.check_meaning.specs.Tests.{Passes, Fails, reads, equal, below, not-below, not-at-most, not-fails, fails-unless, and-passes, or-passes, or-fails, all-pass, any-passes, none-passes}
-use Rattle.check_meaning.specs.Accepted.{BaseRecord, RightBaseRecords, RightBaseMarks}
+use Rattle.check_refusals.specs.Refusals.{equalCorners, cornerNotInBase, badPiece, badBaseRecord, badBaseRecords, badMarks, badBaseMarks}
+use Rattle.check_meaning.specs.Tests.{Passes, Fails, reads, equal, below, not-below, not-at-most, not-fails, not-passes, fails-unless, and-passes, implies-passes, or-passes, or-fails, all-pass, any-passes, none-passes}
+use Rattle.check_meaning.specs.Accepted.{BaseRecord, RightBaseRecords, EdgeOf, RightMarks, RightBaseMarks}
 
 -- Every two slots are the ends of an edge, one way round or the other; the ends of an edge are two.
 slots-joined : (j : ℕ) → j < 4 → (k : ℕ) → k < 4 → (j ≡ k) ⊎ ((e : ℕ) × (e < 6) × (((lowSlot e ≡ j) × (highSlot e ≡ k)) ⊎ ((lowSlot e ≡ k) × (highSlot e ≡ j))))
@@ -26,6 +25,23 @@ slots-joined =
 pub slots-apart : (e : ℕ) → e < 6 → lowSlot e ≢ highSlot e
 unfolding lowSlot highSlot anyBelow
 slots-apart = none-passes 6 (λ e l. fails-unless (equal (lowSlot e) (highSlot e))) .0 refl
+
+-- An edge of face i, and a mark that fits it.
+edge-of : (e i : ℕ) → Passes (onFace e i) (EdgeOf i e)
+unfolding onFace hasSlot
+edge-of e i =
+    reads (and-passes (below e 6) (not-passes (or-fails (fails-unless (equal (lowSlot e) i)) (fails-unless (equal (highSlot e) i)))))
+    (λ h. record { code = h .0; low = h .1 .0; high = h .1 .1 })
+    (λ r. (r .code, (r .low, r .high)))
+
+mark-fits : (edge m i : ℕ) → Passes (markFits edge m i) (EdgeOf i m × (EdgeOf i edge → m ≡ edge))
+unfolding markFits
+mark-fits edge m i = and-passes (edge-of m i) (implies-passes (edge-of edge i) (equal m edge))
+
+-- What a valid shape has, part by part.
+pub valid-is : (s : Shape) → Passes (validShape s) ((s .edge < 6) × (((i : ℕ) → i < 4 → markFits (s .edge) (mark s i) i ≡ true) × (flagFits s ≡ true)))
+unfolding validShape
+valid-is s = and-passes (below (s .edge) 6) (and-passes (all-pass 4 (λ i l. Iff·rfl)) Iff·rfl)
 
 module _ (p : Piece) where
   corners-differ : Fails (equalCorners p) ((j k : ℕ) → j < 4 → k < 4 → cornerAt p j ≡ cornerAt p k → j ≡ k)
@@ -43,18 +59,28 @@ module _ (p : Piece) where
       (slots-joined j lj k lk))
       (λ d e l same. slots-apart e l (d (lowSlot e) (highSlot e) (slots-small e .0) (slots-small e .1) same))
 
-  -- What a valid shape has, part by part.
-  pub valid-is : Passes (validShape (shapeOf p)) ((p .edge < 6) × (((i : ℕ) → i < 4 → markFits (p .edge) (mark (shapeOf p) i) i ≡ true) × (flagFits (shapeOf p) ≡ true)))
-  unfolding validShape
-  valid-is = and-passes (below (p .edge) 6) (and-passes (all-pass 4 (λ i l. Iff·rfl)) Iff·rfl)
+  -- Rule 6 asks for the marks that the document does.
+  right-marks : Fails (badMarks p) (RightMarks p)
+  unfolding badMarks
+  right-marks =
+      reads (or-fails (not-below 5 (p .edge)) (none-passes 4 λ i l. not-fails (mark-fits (p .edge) (mark (shapeOf p) i) i)))
+      (λ h. record { edge = omega arith; marks = λ i l. h .1 i l .0; refinement-faces = λ i l. h .1 i l .1 })
+      (λ r. let code = r .edge in (omega arith, λ i l. (r .marks i l, r .refinement-faces i l)))
 
-  -- An unset flag fits every type.
-  marks-fit : p .flag ≡ 0 → length (p .marks) ≡ 4 → Fails (badMarks p) (Valid (shapeOf p))
-  unfolding badMarks flagFits
-  marks-fit unset four =
-      reads (or-fails (not-below 5 (p .edge)) (none-passes 4 λ i l. not-fails Iff·rfl))
-      (λ h. record { four = four; valid = valid-is .1 (omega arith, (h .1, rw (equal (p .flag) 0 .1 unset))) })
-      (λ v. let h = valid-is .0 (v .valid) in (omega arith, h .1 .0))
+  -- So a piece whose flag is unset has right marks exactly where its shape is valid: an unset flag fits every type.
+  pub marks-valid : p .flag ≡ 0 → length (p .marks) ≡ 4 → RightMarks p → Valid (shapeOf p)
+  unfolding flagFits
+  marks-valid unset four r =
+      record {
+        four = four;
+        valid = valid-is (shapeOf p) .1 (r .edge, (λ i l. mark-fits (p .edge) (mark (shapeOf p) i) i .1 (r .marks i l, r .refinement-faces i l), rw (equal (p .flag) 0 .1 unset)));
+      }
+
+  pub valid-marks : Valid (shapeOf p) → RightMarks p
+  valid-marks v =
+      let (edge, (marks, flag)) = valid-is (shapeOf p) .0 (v .valid) in
+      let fits : (i : ℕ) → i < 4 → EdgeOf i (mark (shapeOf p) i) × (EdgeOf i (p .edge) → mark (shapeOf p) i ≡ p .edge) = λ i l. mark-fits (p .edge) (mark (shapeOf p) i) i .0 (marks i l) in
+      record { edge = edge; marks = λ i l. fits i l .0; refinement-faces = λ i l. fits i l .1 }
 
 module _ (m : Tables) where
   base-record : (n : ℕ) → Fails (badBaseRecord m n) (BaseRecord m n)
@@ -66,7 +92,7 @@ module _ (m : Tables) where
       (or-fails
       (or-fails
       (or-fails (corners-differ p) (none-passes 4 λ k l. not-at-most (baseVertices m) (cornerAt p k)))
-      (fails-unless (equal (sixfoldAt m p) 0)))
+      (fails-unless (equal (sixfoldAt (m .vertexAt) p) 0)))
       (not-fails (equal (p .generation) 0)))
       (not-fails (equal (p .flag) 0)))
       (λ h. record { different = h .0 .0 .0 .0; in-base = h .0 .0 .0 .1; volume = h .0 .0 .1; generation = h .0 .1; flag = h .1 })
@@ -76,7 +102,6 @@ module _ (m : Tables) where
   unfolding badBaseRecords
   rule5-holds = none-passes (baseRecords m) (λ n l. base-record n)
 
-  -- The flags are 0, as rule 5 has it, and every record has four marks.
-  pub rule6-holds : RightBaseRecords m → ((n : ℕ) → length (pieceAt m n .marks) ≡ 4) → Fails (badBaseMarks m) (RightBaseMarks m)
-  unfolding badBaseMarks badlyMarked
-  rule6-holds base four = none-passes (baseRecords m) (λ n l. marks-fit (pieceAt m n) (base n l .flag) (four n))
+  pub rule6-holds : Fails (badBaseMarks m) (RightBaseMarks m)
+  unfolding badBaseMarks
+  rule6-holds = none-passes (baseRecords m) (λ n l. right-marks (pieceAt m n))

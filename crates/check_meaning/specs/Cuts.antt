@@ -7,6 +7,7 @@ use lib.ListN.{length, length-set}
 use Rattle.laws.specs.Below.{any-is, first-where, countBelow}
 use Rattle.piece.specs.declared.Piece.{Piece}
 use Rattle.piece.specs.declared.Ends.{Ends}
+use Rattle.piece.specs.Shape.{lastGeneration}
 use Rattle.piece.specs.Ends.{endsOf, lowerEnd, higherEnd}
 use Rattle.piece.specs.Same.{samePiece, same-piece-is, same-piece-refl}
 use Rattle.piece_cut.specs.Cut.{childShape, childOf, cutOf}
@@ -56,7 +57,7 @@ module _ (m : Tables) where
   is-cut : (n : ℕ) → Passes (isCut m n) (Cut m n)
   is-cut n = not-passes (fails-unless (equal (firstChild m n) none))
 
-  pub child-of : (c n : ℕ) → Passes (isChildOf m c n) (ChildOf m c n)
+  pub child-of : (c n : ℕ) → Passes (isChildOf (m .recordAt n) c) (ChildOf m c n)
   unfolding isChildOf
   child-of c n =
       reads (and-passes (is-cut n) (or-passes (equal (firstChild m n) c) (equal (firstChild m n + 1) c)))
@@ -68,13 +69,13 @@ module _ (m : Tables) where
   one-parent c =
       and-fails (at-most (baseRecords m) c)
       (not-fails
-      (reads (equal (countBelow (allRecords m) (isChildOf m c)) 1)
-      (one-counted (isChildOf m c) (child-of c) (allRecords m) .0)
-      (one-counted (isChildOf m c) (child-of c) (allRecords m) .1)))
+      (reads (equal (countBelow (allRecords m) (λ n. isChildOf (m .recordAt n) c)) 1)
+      (one-counted (λ n. isChildOf (m .recordAt n) c) (child-of c) (allRecords m) .0)
+      (one-counted (λ n. isChildOf (m .recordAt n) c) (child-of c) (allRecords m) .1)))
 
-  midpoint-of : (v n : ℕ) → Passes (isMidpointOf m v n) (Cut m n × ((baseVertices m ≤ v) × HasParents m (refinementEnds m n) v))
+  midpoint-of : (v n : ℕ) → Passes (isMidpointOf m v n) (Cut m n × ((baseVertices m ≤ v) × HasParents m (refinementEnds (pieceAt m n)) v))
   unfolding isMidpointOf
-  midpoint-of v n = and-passes (is-cut n) (parents-are m (refinementEnds m n) v)
+  midpoint-of v n = and-passes (is-cut n) (parents-are m (refinementEnds (pieceAt m n)) v)
 
   module _ (v : RightVertices m) (four : (n : ℕ) → Four (pieceAt m n)) where
     right-cut : (n : ℕ) → Fails (badChildren m n (m .recordAt n)) (RightCut m n)
@@ -82,7 +83,7 @@ module _ (m : Tables) where
     right-cut n =
         let p = pieceAt m n in
         let c = firstChild m n in
-        let ends = refinementEnds m n in
+        let ends = refinementEnds p in
         let w = vertexWith m ends in
         reads
         (or-fails
@@ -104,9 +105,9 @@ module _ (m : Tables) where
         (λ r. rw (vertex-is v ends (r .w) (r .made) (r .parents)) ((((r .made .there, r .above), r .there), r .first), r .second))
 
     right-record : (n : ℕ) → Fails (badRecord m n)
-        (((Cut m n → RightCut m n) × (baseRecords m ≤ n → ExactlyOne (allRecords m) (ChildOf m n))) × (pieceAt m n .generation ≤ 15))
+        (((Cut m n → RightCut m n) × (baseRecords m ≤ n → ExactlyOne (allRecords m) (ChildOf m n))) × (pieceAt m n .generation ≤ lastGeneration))
     unfolding badRecord badCut tooDeep
-    right-record n = or-fails (or-fails (and-fails (is-cut n) (right-cut n)) (one-parent n)) (not-below 15 (pieceAt m n .generation))
+    right-record n = or-fails (or-fails (and-fails (is-cut n) (right-cut n)) (one-parent n)) (not-below lastGeneration (pieceAt m n .generation))
 
     -- No parent pair is used twice, as rule 4 has it.
     pub rule9-holds : Fails (badCuts m) (RightCuts m)

@@ -10,14 +10,15 @@ use lib.Dec.{eqb, ltb}
 use borrow.Author.Tests.{ltb-true, ltb-false, eqb-true, eqb-false}
 use Rattle.laws.specs.Below.{either}
 use Rattle.piece.specs.declared.Piece.{Piece}
-use Rattle.piece_edges.specs.Edges.{lowSlot, highSlot, hasSlot}
-use Rattle.piece.specs.Shape.{shapeOf}
+use Rattle.piece_edges.specs.Edges.{lowSlot, highSlot, hasSlot, slots-small}
+use Rattle.piece.specs.Shape.{shapeOf, Valid}
 use Rattle.piece.specs.Ends.{cornerAt, lowerEnd, higherEnd}
 use Rattle.piece_cut.specs.Cut.{childOf, cutOf}
-use Rattle.piece_cut.specs.Theorems.{Valid, End, child-is-valid, slots-small}
+use Rattle.piece_cut.specs.Theorems.{End, child-is-valid}
 use Rattle.check_refusals.specs.Tables.{Tables, allVertices, baseRecords, allRecords, pieceAt}
 use Rattle.check_meaning.specs.Tests.{equal, or-passes}
 use Rattle.check_meaning.specs.Accepted.{RightMesh, RightCut, ChildOf, RightCuts}
+use Rattle.check_meaning.specs.Bases.{marks-valid}
 use Rattle.check_meaning.specs.Cuts.{Four, child-four}
 
 -- ---- one cut
@@ -124,7 +125,7 @@ module _ (m : Tables) (a : RightMesh m) (four : (n : ℕ) → Four (pieceAt m n)
       record {
         four = four n;
         there = λ k small. omega (arith, a .base-records n l .in-base k small, a .counts .vertices-within);
-        valid = a .base-marks n l;
+        valid = marks-valid (pieceAt m n) (a .base-records n l .flag) (four n .marks) (a .base-marks n l);
       })
       (λ c l d h. subst (Sound m) (sym (d .is)) (child-sound m (pieceAt m (d .parent)) (d .cut .w) (d .slot) h (d .cut .made .there) (d .small) (d .end)))
 

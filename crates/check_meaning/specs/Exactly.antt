@@ -10,11 +10,12 @@ use lib.ListN.{getD}
 use lib.Dec.{eqb}
 use borrow.Author.Tests.{eqb-true}
 use Rattle.laws.specs.Below.{either}
+use Rattle.stored.specs.Layout.{limits}
 use Rattle.check_refusals.specs.declared.Report.{Report}
 use Rattle.check_refusals.specs.Tables.{tablesOf}
 use Rattle.check_refusals.specs.Check.{rows, tableRows, checkNumber, reportOf, checkOf}
 use Rattle.check_meaning.specs.Tests.{Fails}
-use Rattle.check_meaning.specs.Accepted.{RightLength, RightMark, RightCounts, RightVertices, RightBaseRecords, RightBaseMarks, RightFaces, RightUses, RightCuts, NoneHangs, Accepted}
+use Rattle.check_meaning.specs.Accepted.{RightLength, RightMark, Within, RightCounts, RightVertices, RightBaseRecords, RightBaseMarks, RightFaces, RightUses, RightCuts, NoneHangs, Accepted}
 use Rattle.check_meaning.specs.Heading.{rule1-holds, rule2-holds, rule3-holds}
 use Rattle.check_meaning.specs.Vertices.{rule4-holds}
 use Rattle.check_meaning.specs.Bases.{rule5-holds, rule6-holds}
@@ -29,7 +30,7 @@ rules s =
     Unit {0}
     ∷ RightLength s
     ∷ RightMark s
-    ∷ RightCounts m
+    ∷ (Within limits m × RightCounts m)
     ∷ RightVertices m
     ∷ RightBaseRecords m
     ∷ RightBaseMarks m
@@ -56,10 +57,10 @@ rule-holds : (s : List ℕ) (k : ℕ) → RulesBefore s (suc k) → Fails (broke
 unfolding rows tableRows
 rule-holds s zero h = rule1-holds s
 rule-holds s (suc zero) h = rule2-holds s
-rule-holds s (suc (suc zero)) h = rule3-holds s
-rule-holds s (suc (suc (suc zero))) h = rule4-holds (tablesOf s) (h 3 (omega arith) .vertices-within)
+rule-holds s (suc (suc zero)) h = rule3-holds limits s
+rule-holds s (suc (suc (suc zero))) h = rule4-holds (tablesOf s) (h 3 (omega arith) .1 .vertices-within)
 rule-holds s (suc (suc (suc (suc zero)))) h = rule5-holds (tablesOf s)
-rule-holds s (suc (suc (suc (suc (suc zero))))) h = rule6-holds (tablesOf s) (h 5 (omega arith)) (λ n. stored-four s n .marks)
+rule-holds s (suc (suc (suc (suc (suc zero))))) h = rule6-holds (tablesOf s)
 rule-holds s (suc (suc (suc (suc (suc (suc zero)))))) h = rule7-holds (tablesOf s)
 rule-holds s (suc (suc (suc (suc (suc (suc (suc zero))))))) h = rule8-holds (tablesOf s)
 rule-holds s (suc (suc (suc (suc (suc (suc (suc (suc zero)))))))) h = rule9-holds (tablesOf s) (h 4 (omega arith)) (stored-four s)
@@ -113,8 +114,9 @@ module _ (s : List ℕ) where
         record {
           length = r 1 (omega arith);
           mark = r 2 (omega arith);
+          limits = r 3 (omega arith) .0;
           mesh = record {
-            counts = r 3 (omega arith);
+            counts = r 3 (omega arith) .1;
             vertices = r 4 (omega arith);
             base-records = r 5 (omega arith);
             base-marks = r 6 (omega arith);
@@ -126,7 +128,7 @@ module _ (s : List ℕ) where
         },
     λ a. let m = a .mesh in
         let r = each-at (rules s)
-        (tt, (a .length, (a .mark, (m .counts, (m .vertices, (m .base-records, (m .base-marks, (m .faces, (m .uses, (m .cuts, (a .none-hangs, tt))))))))))) in
+        (tt, (a .length, (a .mark, ((a .limits, m .counts), (m .vertices, (m .base-records, (m .base-marks, (m .faces, (m .uses, (m .cuts, (a .none-hangs, tt))))))))))) in
         zero-exactly .1 (λ k. rules-hold (suc k) (λ j l. r j) k (le-refl (suc k))),
   )
 

@@ -71,7 +71,7 @@ module _ (p q : Piece) where
   has-face k = any-passes 4 λ i l. same-face i k
 
 module _ (m : Tables) where
-  in-two : (q : Piece) (s : ℕ) → Fails (faceInThree m q s (pieceAt m s))
+  in-two : (q : Piece) (s : ℕ) → Fails (faceInThree (m .recordAt) q s (pieceAt m s))
       ((k : ℕ) → k < 4 → (j : ℕ) × (j < 4) × SameFace (pieceAt m s) j q k → (r : ℕ) × (r < s) × ((i : ℕ) × (i < 4) × SameFace (pieceAt m r) i q k) → ⊥)
   unfolding faceInThree faceBefore
   in-two q s = none-passes 4 λ k l. and-fails (has-face (pieceAt m s) q k) (fails-unless (any-passes s λ r b. has-face (pieceAt m r) q k))

@@ -57,6 +57,12 @@ and-fails {a} {b} h k = (
   λ f. ⊎-elim (λ t. rw t (k .1 (f (h .0 t)))) (λ e. rw e) (either a),
 )
 
+pub implies-passes : {a b : Bool} {P Q : Type 0} → Passes a P → Passes b Q → Passes (not a || b) (P → Q)
+implies-passes {a} {b} h k = (
+  λ e p. k .0 (rw (h .1 p) at e),
+  λ f. ⊎-elim (λ t. rw t (k .1 (f (h .0 t)))) (λ e. rw e) (either a),
+)
+
 pub or-passes : {a b : Bool} {P Q : Type 0} → Passes a P → Passes b Q → Passes (a || b) (P ⊎ Q)
 or-passes {a} {b} h k = (
   λ e. ⊎-elim (λ t. inl (h .0 t)) (λ f. inr (k .0 (or-second a b f e))) (either a),

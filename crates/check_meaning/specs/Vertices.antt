@@ -41,7 +41,7 @@ module _ (m : Tables) where
       (λ h. record { x = h .0 .0 .0 .0; y = h .0 .0 .0 .1; z = h .0 .0 .1; p = h .0 .1; q = h .1 })
       (λ r. ((((r .x, r .y), r .z), r .p), r .q))
 
-  made-vertex : (v : ℕ) → Fails (badMadeVertex m v) (MadeVertex m v)
+  made-vertex : (v : ℕ) → Fails (badMadeVertex (m .vertexAt) v) (MadeVertex m v)
   unfolding badMadeVertex
   made-vertex v =
       let p = parentP m v in
@@ -53,7 +53,7 @@ module _ (m : Tables) where
       (λ h. record { p<q = h .0 .0; q<v = h .0 .1; halfway = h .1 })
       (λ r. ((r .p<q, r .q<v), r .halfway))
 
-  place-once-before : (v : ℕ) → Fails (placeTwice m v) ((u : ℕ) → u < v → pointAt m u ≡ pointAt m v → ⊥)
+  place-once-before : (v : ℕ) → Fails (placeTwice (m .vertexAt) v) ((u : ℕ) → u < v → pointAt m u ≡ pointAt m v → ⊥)
   unfolding placeTwice
   place-once-before v =
       none-passes v λ u l. fails-unless

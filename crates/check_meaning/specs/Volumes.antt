@@ -7,15 +7,16 @@ use native.Mathlib.Omega.{arith}
 use lib.Dec.{eqb, ltb}
 use lib.IntN.{ℤ, pos, negℤ, natAbs, _+ℤ_, +ℤ-invr}
 use borrow.Author.Tests.{ltb-true, ltb-false, eqb-true, eqb-false, ne-eqb}
-use Rattle.laws.specs.Below.{sumBelow, sum-same, either}
+use Rattle.laws.specs.Below.{putAt, sumBelow, sum-same, either}
 use Rattle.algebra.specs.Multiple.{halves}
 use Rattle.piece.specs.declared.Piece.{Piece}
+use Rattle.piece.specs.Shape.{shapeOf}
 use Rattle.piece.specs.Ends.{cornerAt, lowerEnd, higherEnd, endsOf}
 use Rattle.piece_cut.specs.Cut.{childOf, cutOf}
 use Rattle.grid.specs.Places.{Point}
 use Rattle.grid_volume.specs.Volume.{determinantOf, differencesOf, sixfoldOf}
 use Rattle.grid_volume.specs.Halving.{determinant-turned}
-use Rattle.grid.specs.Corners.{putAt, exchanged, Midpoint}
+use Rattle.grid.specs.Corners.{exchanged, Midpoint}
 use Rattle.grid_volume.specs.VolumeTheorems.{half-sixfold, sixfold-kept}
 use Rattle.stored.specs.Layout.{none}
 use Rattle.check_refusals.specs.Tables.{Tables, baseRecords, allRecords, pieceAt, isLeaf, cornerPoint, sixfoldAt}
@@ -29,7 +30,7 @@ use Rattle.check_meaning.specs.Descent.{ends-are, lower-is-end, higher-i
 use Rattle.check_meaning.specs.Sums.{sum-plus, sum-of-none, sum-swap, sum-of-one, sum-of-part, sum-at, sum-parts}
 
 -- The child's corners are the parent's with w's place in slot k.
-child-sixfold : (m : Tables) (p : Piece) (w k : ℕ) → Four p → k < 4 → sixfoldAt m (childOf p w k) ≡ sixfoldOf (putAt k (pointAt m w) (cornerPoint m p))
+child-sixfold : (m : Tables) (p : Piece) (w k : ℕ) → Four p → k < 4 → sixfoldAt (m .vertexAt) (childOf p w k) ≡ sixfoldOf (putAt k (pointAt m w) (cornerPoint (m .vertexAt) p))
 unfolding sixfoldAt
 child-sixfold m p w k f l =
     ap sixfoldOf (fun-ext λ j. ap (pointAt m) (child-corner p w k f l j) ∙ picked (eqb j k) w (cornerAt p j))
@@ -59,11 +60,11 @@ flat corner i j hi hj apart same =
 
 -- The sixfold volume of record n.
 abbrev pub volume : Tables → ℕ → ℕ
-volume m n = sixfoldAt m (pieceAt m n)
+volume m n = sixfoldAt (m .vertexAt) (pieceAt m n)
 
 -- The volume of c, at each record of which it is a child.
 abbrev share : Tables → ℕ → ℕ → ℕ
-share m c n = cond (isChildOf m c n) (volume m c) 0
+share m c n = cond (isChildOf (m .recordAt n) c) (volume m c) 0
 
 module _ (m : Tables) (a : RightMesh m) (four : (n : ℕ) → Four (pieceAt m n)) where
   -- Each child of a cut record has half its volume.
@@ -73,16 +74,16 @@ module _ (m : Tables) (a : RightMesh m) (four : (n : ℕ) → Four (pieceAt m n)
       let p = pieceAt m n in
       let u = lowerEnd p (p .edge) in
       let v = higherEnd p (p .edge) in
-      let corner = cornerPoint m p in
+      let corner = cornerPoint (m .vertexAt) p in
       let sound = every-sound m a four n l in
       let lu = lower-is-end p (p .edge) .0 in
       let lv = higher-is-end p (p .edge) .0 in
-      let apart = ends-apart p (p .edge) (valid-is p .0 (sound .valid .valid) .0) in
+      let apart = ends-apart p (p .edge) (valid-is (shapeOf p) .0 (sound .valid .valid) .0) in
       let middle : Midpoint (pointAt m (r .w)) (corner u) (corner v) = rw (r .parents .p, r .parents .q) at (a .vertices .made (r .w) (r .made) .halfway) in
       let kept = sixfold-kept corner (pointAt m (r .w)) u v lu lv apart middle in
       let half = half-sixfold corner (pointAt m (r .w)) u v lu lv apart middle in
-      let first = ap (sixfoldAt m) (r .first) ∙ child-sixfold m p (r .w) v (sound .four) lv in
-      let second = ap (sixfoldAt m) (r .second) ∙ child-sixfold m p (r .w) u (sound .four) lu in
+      let first = ap (sixfoldAt (m .vertexAt)) (r .first) ∙ child-sixfold m p (r .w) v (sound .four) lv in
+      let second = ap (sixfoldAt (m .vertexAt)) (r .second) ∙ child-sixfold m p (r .w) u (sound .four) lu in
       (omega (arith, kept, half, first, second), omega (arith, half, second))
 
   -- Every record has a volume: the base has, and half of one is one.
@@ -100,7 +101,7 @@ module _ (m : Tables) (a : RightMesh m) (four : (n : ℕ) → Four (pieceAt m n)
   unfolding sixfoldAt
   every-different n l j k lj lk same =
       ⊎-elim (λ t. eqb-true j k t)
-      (λ f. absurd (every-volume n l (flat (cornerPoint m (pieceAt m n)) j k lj lk (eqb-false j k f) (ap (pointAt m) same))))
+      (λ f. absurd (every-volume n l (flat (cornerPoint (m .vertexAt) (pieceAt m n)) j k lj lk (eqb-false j k f) (ap (pointAt m) same))))
       (either (eqb j k))
 
   -- A record of the base is no child; any other is the child of exactly one.

@@ -1,6 +1,7 @@
 // Refusals 5 and 6: base records that are no pieces, and marks that do not fit.
 use piece::Piece;
 use stored::Header;
+use stored::Layout;
 ghost use mathlib.Core.Path.{_≡_};
 ghost use lib.Dec.{eqb, leb};
 ghost use mathlib.Core.Bool.{not};
@@ -8,6 +9,7 @@ ghost use Rattle.laws.specs.Below.{anyBelow};
 ghost use Rattle.piece.specs.Ends.{cornerAt};
 ghost use Rattle.piece_edges.specs.Edges.{lowSlot, highSlot};
 ghost use Rattle.piece.specs.Shape.{shapeOf, mark, markFits};
+ghost use Rattle.stored.specs.Layout.{recordIn};
 ghost use Rattle.check_refusals.specs.Tables.{tables};
 ghost use Rattle.check_refusals.specs.Refusals.{
   equalCorners,
@@ -16,7 +18,6 @@ ghost use Rattle.check_refusals.specs.Refusals.{
   badBaseRecord,
   badBaseRecords,
   badMarks,
-  badlyMarked,
   badBaseMarks,
 };
 
@@ -45,8 +46,8 @@ fn not_in_base(h: Header, p: Piece, k: u8) -> bool
     h.base_vertices <= piece::corner(p, k)
 }
 
-fn corner_not_in_base(h: Header, vertices: &[u8], records: &[u8], p: Piece) -> bool
-    ensures { λ r. ⌜ r ≡ cornerNotInBase (tables h (now (vertices .entry)) (now (records .entry))) p ⌝ }
+fn corner_not_in_base(h: Header, p: Piece) -> bool
+    ensures { λ r. ⌜ r ≡ cornerNotInBase (h .«base_vertices») p ⌝ }
 {
     let mut k: u8 = 0;
     while k < 4 {
@@ -58,16 +59,16 @@ fn corner_not_in_base(h: Header, vertices: &[u8], records: &[u8], p: Piece) -> b
     false
 }
 
-fn bad_piece(h: Header, vertices: &[u8], records: &[u8], p: Piece) -> bool
-    ensures { λ r. ⌜ r ≡ badPiece (tables h (now (vertices .entry)) (now (records .entry))) p ⌝ }
+fn bad_piece<'a>(h: Header, l: Layout, base: &'a [u8], grown: &'a [u8], p: Piece) -> bool
+    ensures { λ r. ⌜ r ≡ badPiece (tables h l (now (base .entry)) (now (grown .entry))) p ⌝ }
 {
     if equal_corners(p) {
         return true;
     }
-    if corner_not_in_base(h, vertices, records, p) {
+    if corner_not_in_base(h, p) {
         return true;
     }
-    if check_refusals::sixfold_of(h, vertices, records, p) == 0 {
+    if check_refusals::sixfold_of(l, base, grown, p) == 0 {
         return true;
     }
     if p.generation != 0 {
@@ -76,22 +77,22 @@ fn bad_piece(h: Header, vertices: &[u8], records: &[u8], p: Piece) -> bool
     p.flag != 0
 }
 
-fn bad_base_record(h: Header, vertices: &[u8], records: &[u8], n: usize) -> bool
-    ensures { λ r. ⌜ r ≡ badBaseRecord (tables h (now (vertices .entry)) (now (records .entry))) n ⌝ }
+fn bad_base_record<'a>(h: Header, l: Layout, base: &'a [u8], grown: &'a [u8], n: usize) -> bool
+    ensures { λ r. ⌜ r ≡ badBaseRecord (tables h l (now (base .entry)) (now (grown .entry))) n ⌝ }
 {
-    let record = stored_entries::record_in(records, n);
+    let record = stored_entries::record_in(l, base, grown, n);
     let p = record.piece;
-    bad_piece(h, vertices, records, p)
+    bad_piece(h, l, base, grown, p)
 }
 
 // Refusal 5.
-pub fn bad_base_records(h: Header, vertices: &[u8], records: &[u8]) -> bool
-    ensures { λ r. ⌜ r ≡ badBaseRecords (tables h (now (vertices .entry)) (now (records .entry))) ⌝ }
+pub fn bad_base_records<'a>(h: Header, l: Layout, base: &'a [u8], grown: &'a [u8]) -> bool
+    ensures { λ r. ⌜ r ≡ badBaseRecords (tables h l (now (base .entry)) (now (grown .entry))) ⌝ }
 {
     let count = h.base_records as usize;
     let mut n: usize = 0;
     while n < count {
-        if bad_base_record(h, vertices, records, n) {
+        if bad_base_record(h, l, base, grown, n) {
             return true;
         }
         n += 1;
@@ -127,22 +128,22 @@ fn bad_marks(p: Piece) -> bool
     bad_mark_in(p)
 }
 
-fn badly_marked(h: Header, vertices: &[u8], records: &[u8], n: usize) -> bool
-    ensures { λ r. ⌜ r ≡ badlyMarked (tables h (now (vertices .entry)) (now (records .entry))) n ⌝ }
+fn badly_marked<'a>(l: Layout, base: &'a [u8], grown: &'a [u8], n: usize) -> bool
+    ensures { λ r. ⌜ r ≡ badMarks (recordIn l (now (base .entry)) (now (grown .entry)) n .piece) ⌝ }
 {
-    let record = stored_entries::record_in(records, n);
+    let record = stored_entries::record_in(l, base, grown, n);
     let p = record.piece;
     bad_marks(p)
 }
 
 // Refusal 6.
-pub fn bad_base_marks(h: Header, vertices: &[u8], records: &[u8]) -> bool
-    ensures { λ r. ⌜ r ≡ badBaseMarks (tables h (now (vertices .entry)) (now (records .entry))) ⌝ }
+pub fn bad_base_marks<'a>(h: Header, l: Layout, base: &'a [u8], grown: &'a [u8]) -> bool
+    ensures { λ r. ⌜ r ≡ badBaseMarks (tables h l (now (base .entry)) (now (grown .entry))) ⌝ }
 {
     let count = h.base_records as usize;
     let mut n: usize = 0;
     while n < count {
-        if badly_marked(h, vertices, records, n) {
+        if badly_marked(l, base, grown, n) {
             return true;
         }
         n += 1;

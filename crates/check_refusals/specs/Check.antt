@@ -4,10 +4,12 @@ use mathlib.Core.List.{List, [], _∷_}
 use Prim.Native.Nat.{ℕ}
 use lib.Dec.{eqb}
 use Rattle.laws.specs.Below.{countBelow, greatestBelow, sumBelow, firstBelow}
-use Rattle.stored.specs.Layout.{headerOf}
+use Rattle.stored.specs.declared.Vertex.{Vertex}
+use Rattle.stored.specs.declared.Record.{Record}
+use Rattle.stored.specs.Layout.{limits, headerOf}
 use Rattle.check_refusals.specs.declared.Report.{Report}
-use Rattle.check_refusals.specs.Tables.{Tables, tablesOf, allRecords, pieceAt, isLeaf, sixfoldAt}
-use Rattle.check_refusals.specs.Refusals.{wrongLength, wrongMark, limits, wrongCounts, badVertices, badBaseRecords, badBaseMarks, badBaseFaces, unusedVertices, badCuts, hangsAt, leafHangs, hangingEdge}
+use Rattle.check_refusals.specs.Tables.{Tables, tablesOf, allRecords, uncut, isLeaf, sixfoldAt}
+use Rattle.check_refusals.specs.Refusals.{wrongLength, wrongMark, wrongCounts, badVertices, badBaseRecords, badBaseMarks, badBaseFaces, unusedVertices, badCuts, hangsAt, leafHangs, hangingEdge}
 
 -- A row of the table: a number, and whether its rule is broken.
 pub record Row : Type 0 where
@@ -45,17 +47,17 @@ checkNumber s = firstBroken (rows s)
 unfoldable pub leaves : Tables → ℕ
 leaves m = countBelow (allRecords m) (isLeaf m)
 
-unfoldable pub leafGeneration : Tables → ℕ → ℕ
-leafGeneration m n = cond (isLeaf m n) (pieceAt m n .generation) 0
+unfoldable pub leafGeneration : Record → ℕ
+leafGeneration r = cond (uncut r) (r .piece .generation) 0
 
 unfoldable pub deepest : Tables → ℕ
-deepest m = greatestBelow (allRecords m) (leafGeneration m)
+deepest m = greatestBelow (allRecords m) (λ n. leafGeneration (m .recordAt n))
 
-unfoldable pub leafSixfold : Tables → ℕ → ℕ
-leafSixfold m n = let volume = sixfoldAt m (pieceAt m n) in cond (isLeaf m n) volume 0
+unfoldable pub leafSixfold : (ℕ → Vertex) → Record → ℕ
+leafSixfold vertexAt r = let volume = sixfoldAt vertexAt (r .piece) in cond (uncut r) volume 0
 
 unfoldable pub sixfold : Tables → ℕ
-sixfold m = sumBelow (allRecords m) (leafSixfold m)
+sixfold m = sumBelow (allRecords m) (λ n. leafSixfold (m .vertexAt) (m .recordAt n))
 
 -- "with a refusal these three are 0" and "with any other answer both are 0"
 abbrev pub refusedWith : ℕ → Report

@@ -7,16 +7,17 @@ use Rattle.laws.specs.Below.{anyBelow, allBelow, countBelow}
 use Rattle.piece.specs.declared.Piece.{Piece}
 use Rattle.piece.specs.declared.Ends.{Ends}
 use Rattle.piece_edges.specs.Edges.{lowSlot, highSlot}
-use Rattle.piece.specs.Shape.{shapeOf, mark, markFits}
+use Rattle.piece.specs.Shape.{lastGeneration, shapeOf, mark, markFits}
 use Rattle.piece.specs.Ends.{cornerAt, endsOf}
 use Rattle.piece.specs.Same.{samePiece}
 use Rattle.piece_cut.specs.Cut.{cutOf}
 use Rattle.grid.specs.Places.{pointOf, onGrid, samePlace, isHalfway}
+use Rattle.stored.specs.declared.Limits.{Limits}
 use Rattle.stored.specs.declared.Header.{Header}
 use Rattle.stored.specs.declared.Vertex.{Vertex}
 use Rattle.stored.specs.declared.Record.{Record}
 use Rattle.stored.specs.Layout.{none, rightLength, rightMark}
-use Rattle.check_refusals.specs.Tables.{Tables, baseVertices, allVertices, baseRecords, allRecords, pieceAt, isLeaf, isCut, hasParents, vertexWith, hangs, refinementEnds, sixfoldAt}
+use Rattle.check_refusals.specs.Tables.{Tables, baseVertices, allVertices, baseRecords, allRecords, pieceAt, uncut, isLeaf, isCut, hasParents, vertexWith, hangs, refinementEnds, sixfoldAt}
 
 -- ---- 1: "under 20 bytes, or length is not 20 + 10·vertices + 17·records"
 
@@ -30,14 +31,7 @@ wrongMark s = not (rightMark s)
 
 -- ---- 3: "a count beyond its bounds, or base above all"
 
--- "At most 1,024 vertices and 3,072 records; at least 4 base vertices and 1 base record."
-pub record Limits : Type 0 where
-  pub vertices : ℕ
-  pub records : ℕ
-
-abbrev pub limits : Limits
-limits = record { vertices = 1024; records = 3072 }
-
+-- "At most 1,024 vertices and 3,072 records; at least 4 base vertices and 1 base record.": with other limits, other counts.
 unfoldable pub wrongCounts : Limits → Header → Bool
 wrongCounts most h =
     ltb (most .vertices) (h .vertices)
@@ -49,20 +43,20 @@ wrongCounts most h =
 
 -- ---- 4
 
--- "base coordinate off the grid, base parent not 65,535"
+-- "base coordinate off the grid, base parent not 65,535": none
 unfoldable pub badBaseVertex : Vertex → Bool
 badBaseVertex v = not (onGrid (pointOf (v .place))) || not (eqb (v .p) none) || not (eqb (v .q) none)
 
 -- "two base vertices at one place": vertex v and one before it
-unfoldable pub placeTwice : Tables → ℕ → Bool
-placeTwice m v = anyBelow v (λ u. samePlace (m .vertexAt u .place) (m .vertexAt v .place))
+unfoldable pub placeTwice : (ℕ → Vertex) → ℕ → Bool
+placeTwice vertexAt v = anyBelow v (λ u. samePlace (vertexAt u .place) (vertexAt v .place))
 
 -- "made vertex without p < q < its own number, not exactly halfway"
-unfoldable pub badMadeVertex : Tables → ℕ → Bool
-badMadeVertex m v =
-    let p = m .vertexAt v .p in
-    let q = m .vertexAt v .q in
-    not (ltb p q) || not (ltb q v) || not (isHalfway (m .vertexAt v .place) (m .vertexAt p .place) (m .vertexAt q .place))
+unfoldable pub badMadeVertex : (ℕ → Vertex) → ℕ → Bool
+badMadeVertex vertexAt v =
+    let p = vertexAt v .p in
+    let q = vertexAt v .q in
+    not (ltb p q) || not (ltb q v) || not (isHalfway (vertexAt v .place) (vertexAt p .place) (vertexAt q .place))
 
 -- "a parent pair used twice": by made vertex v and one before it
 unfoldable pub pairTwice : Tables → ℕ → Bool
@@ -70,8 +64,8 @@ pairTwice m v = anyBelow v (hasParents m (record { lower = m .vertexAt v .p; hig
 
 unfoldable pub badVertex : Tables → ℕ → Bool
 badVertex m v =
-    let inBase = badBaseVertex (m .vertexAt v) || placeTwice m v in
-    let made = badMadeVertex m v || pairTwice m v in
+    let inBase = badBaseVertex (m .vertexAt v) || placeTwice (m .vertexAt) v in
+    let made = badMadeVertex (m .vertexAt) v || pairTwice m v in
     cond (ltb v (baseVertices m)) inBase made
 
 unfoldable pub badVertices : Tables → Bool
@@ -84,13 +78,13 @@ unfoldable pub equalCorners : Piece → Bool
 equalCorners p = anyBelow 6 (λ e. eqb (cornerAt p (lowSlot e)) (cornerAt p (highSlot e)))
 
 -- "a corner not in the base"
-unfoldable pub cornerNotInBase : Tables → Piece → Bool
-cornerNotInBase m p = anyBelow 4 (λ k. leb (baseVertices m) (cornerAt p k))
+unfoldable pub cornerNotInBase : ℕ → Piece → Bool
+cornerNotInBase count p = anyBelow 4 (λ k. leb count (cornerAt p k))
 
 -- "base record with equal corners, a corner not in the base, sixfold volume 0, generation or flag not 0"
 unfoldable pub badPiece : Tables → Piece → Bool
 badPiece m p =
-    equalCorners p || cornerNotInBase m p || eqb (sixfoldAt m p) 0 || not (eqb (p .generation) 0) || not (eqb (p .flag) 0)
+    equalCorners p || cornerNotInBase (baseVertices m) p || eqb (sixfoldAt (m .vertexAt) p) 0 || not (eqb (p .generation) 0) || not (eqb (p .flag) 0)
 
 unfoldable pub badBaseRecord : Tables → ℕ → Bool
 badBaseRecord m n = badPiece m (pieceAt m n)
@@ -103,11 +97,8 @@ badBaseRecords m = anyBelow (baseRecords m) (badBaseRecord m)
 unfoldable pub badMarks : Piece → Bool
 badMarks p = ltb 5 (p .edge) || anyBelow 4 (λ i. not (markFits (p .edge) (mark (shapeOf p) i) i))
 
-unfoldable pub badlyMarked : Tables → ℕ → Bool
-badlyMarked m n = badMarks (pieceAt m n)
-
 unfoldable pub badBaseMarks : Tables → Bool
-badBaseMarks m = anyBelow (baseRecords m) (badlyMarked m)
+badBaseMarks m = anyBelow (baseRecords m) (λ n. badMarks (pieceAt m n))
 
 -- ---- 7: faces and pieces are sets of corner numbers
 
@@ -150,26 +141,26 @@ twoMarks p q = anyBelow 4 (λ i. anyBelow 4 (twoMarksOn p i q))
 unfoldable pub hasFace : Piece → ℕ → Piece → Bool
 hasFace q i p = anyBelow 4 (λ j. sameFace p j q i)
 
-unfoldable pub faceBefore : Tables → Piece → ℕ → ℕ → Bool
-faceBefore m q i r = anyBelow r (λ s. hasFace q i (pieceAt m s))
+unfoldable pub faceBefore : (ℕ → Record) → Piece → ℕ → ℕ → Bool
+faceBefore recordAt q i r = anyBelow r (λ s. hasFace q i (recordAt s .piece))
 
 -- "a face in three base records": one of q's is in record r, whose piece is p, and in one before r
-unfoldable pub faceInThree : Tables → Piece → ℕ → Piece → Bool
-faceInThree m q r p = anyBelow 4 (λ i. hasFace q i p && faceBefore m q i r)
+unfoldable pub faceInThree : (ℕ → Record) → Piece → ℕ → Piece → Bool
+faceInThree recordAt q r p = anyBelow 4 (λ i. hasFace q i p && faceBefore recordAt q i r)
 
 -- "a face in three base records, two base records with the same four corners, or a shared face with two marks": p is record r's piece,
 -- q's record comes after it
-unfoldable pub badTogether : Tables → Piece → ℕ → Piece → Bool
-badTogether m q r p = faceInThree m q r p || sameCorners p q || twoMarks p q
+unfoldable pub badTogether : (ℕ → Record) → Piece → ℕ → Piece → Bool
+badTogether recordAt q r p = faceInThree recordAt q r p || sameCorners p q || twoMarks p q
 
-unfoldable pub badWith : Tables → Piece → ℕ → Bool
-badWith m q n = anyBelow n (λ r. badTogether m q r (pieceAt m r))
+unfoldable pub badWith : (ℕ → Record) → Piece → ℕ → Bool
+badWith recordAt q n = anyBelow n (λ r. badTogether recordAt q r (recordAt r .piece))
 
-unfoldable pub badFaces : Tables → ℕ → Bool
-badFaces m n = badWith m (pieceAt m n) n
+unfoldable pub badFaces : (ℕ → Record) → ℕ → Bool
+badFaces recordAt n = badWith recordAt (recordAt n .piece) n
 
 unfoldable pub badBaseFaces : Tables → Bool
-badBaseFaces m = anyBelow (baseRecords m) (badFaces m)
+badBaseFaces m = anyBelow (baseRecords m) (badFaces (m .recordAt))
 
 -- ---- 8: "a base vertex in no base record"
 
@@ -185,7 +176,7 @@ unusedVertices m = anyBelow (baseVertices m) (unusedVertex m)
 -- refinement edge, and both children have to be there. r is record n.
 unfoldable pub badChildren : Tables → ℕ → Record → Bool
 badChildren m n r =
-    let w = vertexWith m (endsOf (r .piece) (r .piece .edge)) in
+    let w = vertexWith m (refinementEnds (r .piece)) in
     leb (allVertices m) w
     || leb (r .«first_child») n
     || leb (allRecords m) (r .«first_child» + 1)
@@ -195,24 +186,24 @@ badChildren m n r =
 unfoldable pub badCut : Tables → ℕ → Bool
 badCut m n = isCut m n && badChildren m n (m .recordAt n)
 
--- c is a child of cut record n.
-unfoldable pub isChildOf : Tables → ℕ → ℕ → Bool
-isChildOf m c n = isCut m n && (eqb (m .recordAt n .«first_child») c || eqb (m .recordAt n .«first_child» + 1) c)
+-- c is a child of the cut record r.
+unfoldable pub isChildOf : Record → ℕ → Bool
+isChildOf r c = not (uncut r) && (eqb (r .«first_child») c || eqb (r .«first_child» + 1) c)
 
 -- "a record beyond the base that isn't the child of exactly one"
 unfoldable pub notChildOfOne : Tables → ℕ → Bool
-notChildOfOne m c = leb (baseRecords m) c && not (eqb (countBelow (allRecords m) (isChildOf m c)) 1)
+notChildOfOne m c = leb (baseRecords m) c && not (eqb (countBelow (allRecords m) (λ n. isChildOf (m .recordAt n) c)) 1)
 
 -- "a generation above 15"
-unfoldable pub tooDeep : Tables → ℕ → Bool
-tooDeep m n = ltb 15 (pieceAt m n .generation)
+unfoldable pub tooDeep : Piece → Bool
+tooDeep p = ltb lastGeneration (p .generation)
 
 unfoldable pub badRecord : Tables → ℕ → Bool
-badRecord m n = badCut m n || notChildOfOne m n || tooDeep m n
+badRecord m n = badCut m n || notChildOfOne m n || tooDeep (pieceAt m n)
 
 -- "a made vertex that is the midpoint of no cut record's refinement edge"
 unfoldable pub isMidpointOf : Tables → ℕ → ℕ → Bool
-isMidpointOf m v n = isCut m n && hasParents m (refinementEnds m n) v
+isMidpointOf m v n = isCut m n && hasParents m (refinementEnds (pieceAt m n)) v
 
 unfoldable pub noMidpoint : Tables → ℕ → Bool
 noMidpoint m v = leb (baseVertices m) v && not (anyBelow (allRecords m) (isMidpointOf m v))

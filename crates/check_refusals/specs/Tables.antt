@@ -9,23 +9,24 @@ use Rattle.piece.specs.declared.Ends.{Ends}
 use Rattle.piece.specs.Ends.{cornerAt, endsOf}
 use Rattle.grid.specs.Places.{Point, pointOf}
 use Rattle.grid_volume.specs.Volume.{sixfoldOf}
+use Rattle.stored.specs.declared.Layout.{Layout}
 use Rattle.stored.specs.declared.Header.{Header}
 use Rattle.stored.specs.declared.Vertex.{Vertex}
 use Rattle.stored.specs.declared.Record.{Record}
-use Rattle.stored.specs.Layout.{none, headerOf, vertexIn, recordIn, verticesOf, recordsOf}
+use Rattle.stored.specs.Layout.{none, headerOf, layoutOf, vertexIn, recordIn}
 
 pub record Tables : Type 0 where
   pub header : Header
   pub vertexAt : ℕ → Vertex
   pub recordAt : ℕ → Record
 
--- The tables with this header, these vertices' bytes and these records' bytes.
-abbrev pub tables : Header → List ℕ → List ℕ → Tables
-tables h vertices records = record { header = h; vertexAt = vertexIn vertices; recordAt = recordIn records }
+-- The tables with this header, as a layout finds them in two slices.
+abbrev pub tables : Header → Layout → List ℕ → List ℕ → Tables
+tables h l base grown = record { header = h; vertexAt = vertexIn l base grown; recordAt = recordIn l base grown }
 
 -- The tables that a byte string holds.
 unfoldable pub tablesOf : List ℕ → Tables
-tablesOf s = tables (headerOf s) (verticesOf s) (recordsOf s)
+tablesOf s = tables (headerOf s) (layoutOf (headerOf s)) s s
 
 -- The four counts.
 abbrev pub baseVertices : Tables → ℕ
@@ -44,9 +45,12 @@ allRecords m = m .header .records
 abbrev pub pieceAt : Tables → ℕ → Piece
 pieceAt m n = m .recordAt n .piece
 
--- "A leaf is a record that is not cut": it has 65,535 for its first child.
+-- "A leaf is a record that is not cut": its first child is none.
+abbrev pub uncut : Record → Bool
+uncut r = eqb (r .«first_child») none
+
 abbrev pub isLeaf : Tables → ℕ → Bool
-isLeaf m n = eqb (m .recordAt n .«first_child») none
+isLeaf m n = uncut (m .recordAt n)
 
 abbrev pub isCut : Tables → ℕ → Bool
 isCut m n = not (isLeaf m n)
@@ -63,14 +67,14 @@ vertexWith m ends = firstBelow (allVertices m) (hasParents m ends)
 unfoldable pub hangs : Tables → Ends → Bool
 hangs m ends = anyBelow (allVertices m) (hasParents m ends)
 
--- The ends of record n's refinement edge.
-abbrev pub refinementEnds : Tables → ℕ → Ends
-refinementEnds m n = endsOf (pieceAt m n) (pieceAt m n .edge)
+-- The ends of a piece's refinement edge.
+abbrev pub refinementEnds : Piece → Ends
+refinementEnds p = endsOf p (p .edge)
 
 -- Where the corner in slot k of a piece stands.
-abbrev pub cornerPoint : Tables → Piece → ℕ → Point
-cornerPoint m p k = pointOf (m .vertexAt (cornerAt p k) .place)
+abbrev pub cornerPoint : (ℕ → Vertex) → Piece → ℕ → Point
+cornerPoint vertexAt p k = pointOf (vertexAt (cornerAt p k) .place)
 
 -- "Sixfold volume" of a piece.
-unfoldable pub sixfoldAt : Tables → Piece → ℕ
-sixfoldAt m p = sixfoldOf (cornerPoint m p)
+unfoldable pub sixfoldAt : (ℕ → Vertex) → Piece → ℕ
+sixfoldAt vertexAt p = sixfoldOf (cornerPoint vertexAt p)

@@ -1,16 +1,16 @@
 // What several of check's rules ask of a decoded mesh: leaves, refinement edges, corners, volumes.
 //
-// A mesh is handed on as its header and the bytes of its two tables.
+// A mesh is handed on as a layout and two slices, with its header only where a count is read.
 use grid::Place;
 use piece::Ends;
 use piece::Piece;
-use stored::Header;
+use stored::Layout;
 ghost use mathlib.Core.Path.{_≡_};
 ghost use lib.Dec.{eqb};
 ghost use Rattle.piece.specs.Ends.{cornerAt};
-ghost use Rattle.stored.specs.Layout.{vertexIn};
+ghost use Rattle.stored.specs.Layout.{vertexIn, recordIn};
 ghost use Rattle.check_refusals.specs.Refusals.{hasCorner};
-ghost use Rattle.check_refusals.specs.Tables.{tables, isLeaf, refinementEnds, sixfoldAt};
+ghost use Rattle.check_refusals.specs.Tables.{uncut, refinementEnds, sixfoldAt};
 
 // What check returns.
 #[repr(C)]
@@ -24,36 +24,36 @@ pub struct Report {
 }
 
 // Whether record n is not cut.
-pub fn is_leaf(h: Header, vertices: &[u8], records: &[u8], n: usize) -> bool
-    ensures { λ r. ⌜ r ≡ isLeaf (tables h (now (vertices .entry)) (now (records .entry))) n ⌝ }
+pub fn is_leaf<'a>(l: Layout, base: &'a [u8], grown: &'a [u8], n: usize) -> bool
+    ensures { λ r. ⌜ r ≡ uncut (recordIn l (now (base .entry)) (now (grown .entry)) n) ⌝ }
 {
-    stored_entries::first_child_in(records, n) == 65535
+    stored_entries::first_child_in(l, base, grown, n) == stored::NONE
 }
 
 // The ends of record n's refinement edge.
-pub fn refinement_ends(h: Header, vertices: &[u8], records: &[u8], n: usize) -> Ends
-    ensures { λ r. ⌜ r ≡ refinementEnds (tables h (now (vertices .entry)) (now (records .entry))) n ⌝ }
+pub fn refinement_ends<'a>(l: Layout, base: &'a [u8], grown: &'a [u8], n: usize) -> Ends
+    ensures { λ r. ⌜ r ≡ refinementEnds (recordIn l (now (base .entry)) (now (grown .entry)) n .piece) ⌝ }
 {
-    let record = stored_entries::record_in(records, n);
+    let record = stored_entries::record_in(l, base, grown, n);
     let p = record.piece;
     piece::ends_of(p, p.edge)
 }
 
-fn place_of(vertices: &[u8], p: Piece, k: u8) -> Place
-    ensures { λ r. ⌜ r ≡ vertexIn (now (vertices .entry)) (cornerAt p k) .place ⌝ }
+fn place_of<'a>(l: Layout, base: &'a [u8], grown: &'a [u8], p: Piece, k: u8) -> Place
+    ensures { λ r. ⌜ r ≡ vertexIn l (now (base .entry)) (now (grown .entry)) (cornerAt p k) .place ⌝ }
 {
-    let v = stored_entries::vertex_in(vertices, piece::corner(p, k) as usize);
+    let v = stored_entries::vertex_in(l, base, grown, piece::corner(p, k) as usize);
     v.place
 }
 
 // The sixfold volume of a piece.
-pub fn sixfold_of(h: Header, vertices: &[u8], records: &[u8], p: Piece) -> u64
-    ensures { λ r. ⌜ r ≡ sixfoldAt (tables h (now (vertices .entry)) (now (records .entry))) p ⌝ }
+pub fn sixfold_of<'a>(l: Layout, base: &'a [u8], grown: &'a [u8], p: Piece) -> u64
+    ensures { λ r. ⌜ r ≡ sixfoldAt (vertexIn l (now (base .entry)) (now (grown .entry))) p ⌝ }
 {
-    let a = place_of(vertices, p, 0);
-    let b = place_of(vertices, p, 1);
-    let c = place_of(vertices, p, 2);
-    let d = place_of(vertices, p, 3);
+    let a = place_of(l, base, grown, p, 0);
+    let b = place_of(l, base, grown, p, 1);
+    let c = place_of(l, base, grown, p, 2);
+    let d = place_of(l, base, grown, p, 3);
     grid_volume::sixfold(a, b, c, d)
 }
 

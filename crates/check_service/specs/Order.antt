@@ -4,13 +4,13 @@ use mathlib.Core.Bool.{Bool, true, false, cond}
 use mathlib.Core.List.{List, [], _∷_}
 use Prim.Native.Nat.{ℕ}
 use native.Mathlib.Omega.{arith}
-use Rattle.stored.specs.Layout.{headerOf, rightLength, rightMark}
+use Rattle.stored.specs.Layout.{limits, headerOf, rightLength, rightMark}
 use Rattle.laws.specs.Below.{firstBelow}
 use Rattle.check_hanging.specs.declared.Found.the-variants.{At, Nothing}
 use Rattle.check_hanging.specs.Hanging.{foundOf}
 use Rattle.check_refusals.specs.Tables.{Tables, tablesOf}
 use Rattle.check_refusals.specs.declared.Report.{Report}
-use Rattle.check_refusals.specs.Refusals.{limits, wrongLength, wrongMark, wrongCounts, badVertices, badBaseRecords, badBaseMarks, badBaseFaces, unusedVertices, badCuts, hangsAt, hangingEdge}
+use Rattle.check_refusals.specs.Refusals.{wrongLength, wrongMark, wrongCounts, badVertices, badBaseRecords, badBaseMarks, badBaseFaces, unusedVertices, badCuts, hangsAt, hangingEdge}
 use Rattle.check_refusals.specs.Check.{row, tableRows, rows, firstBroken, checkNumber, firstHanging, refusedWith, accepted, hangingReport, reportOf, checkOf}
 
 -- Refusal 10, or acceptance.

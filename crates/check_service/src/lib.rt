@@ -2,9 +2,11 @@
 use check_hanging::Found;
 use check_refusals::Report;
 use stored::Header;
+use stored::Layout;
+use stored::Limits;
 ghost use mathlib.Core.Path.{_≡_};
 ghost use Rattle.check_refusals.specs.Tables.{tables};
-ghost use Rattle.check_refusals.specs.Refusals.{limits, wrongCounts};
+ghost use Rattle.check_refusals.specs.Refusals.{wrongCounts};
 ghost use Rattle.check_refusals.specs.Check.{refusedWith, accepted, checkOf};
 ghost use Rattle.check_refusals.specs.Bounded.{Bounded};
 ghost use Rattle.check_service.specs.Order.{closedReport, judgedReport};
@@ -23,13 +25,13 @@ fn refused(number: u64) -> Report
 }
 
 // Refusal 3.
-fn wrong_counts(h: Header) -> bool
-    ensures { λ r. ⌜ r ≡ wrongCounts limits h ⌝ }
+fn wrong_counts(most: Limits, h: Header) -> bool
+    ensures { λ r. ⌜ r ≡ wrongCounts most h ⌝ }
 {
-    if 1024 < h.vertices {
+    if most.vertices < h.vertices {
         return true;
     }
-    if 3072 < h.records {
+    if most.records < h.records {
         return true;
     }
     if h.base_vertices < 4 {
@@ -45,26 +47,26 @@ fn wrong_counts(h: Header) -> bool
 }
 
 // What the tables are accepted with.
-fn accepted_with(h: Header, vertices: &[u8], records: &[u8]) -> Report
+fn accepted_with<'a>(h: Header, l: Layout, base: &'a [u8], grown: &'a [u8]) -> Report
     requires { ⌜ Bounded h ⌝ }
-    ensures { λ r. ⌜ r ≡ accepted (tables h (now (vertices .entry)) (now (records .entry))) ⌝ }
+    ensures { λ r. ⌜ r ≡ accepted (tables h l (now (base .entry)) (now (grown .entry))) ⌝ }
 {
     Report {
         number: 0,
-        leaves: check_figures::leaves_of(h, vertices, records),
-        deepest: check_figures::deepest_of(h, vertices, records),
-        sixfold: check_figures::sixfold_within(h, vertices, records),
+        leaves: check_figures::leaves_of(h, l, base, grown),
+        deepest: check_figures::deepest_of(h, l, base, grown),
+        sixfold: check_figures::sixfold_within(h, l, base, grown),
         record: 0,
         edge: 0,
     }
 }
 
 // Refusal 10, or acceptance.
-fn closed(h: Header, vertices: &[u8], records: &[u8]) -> Report
+fn closed<'a>(h: Header, l: Layout, base: &'a [u8], grown: &'a [u8]) -> Report
     requires { ⌜ Bounded h ⌝ }
-    ensures { λ r. ⌜ r ≡ closedReport (tables h (now (vertices .entry)) (now (records .entry))) ⌝ }
+    ensures { λ r. ⌜ r ≡ closedReport (tables h l (now (base .entry)) (now (grown .entry))) ⌝ }
 {
-    let found = check_hanging::first_hanging(h, vertices, records);
+    let found = check_hanging::first_hanging(h, l, base, grown);
     match found {
         Found::At(n, e) => Report {
             number: 10,
@@ -74,34 +76,34 @@ fn closed(h: Header, vertices: &[u8], records: &[u8]) -> Report
             record: n as u64,
             edge: e as u64,
         },
-        Found::Nothing => accepted_with(h, vertices, records),
+        Found::Nothing => accepted_with(h, l, base, grown),
     }
 }
 
 // Refusals 4 to 10, tried in their order.
-fn judged(h: Header, vertices: &[u8], records: &[u8]) -> Report
+fn judged<'a>(h: Header, l: Layout, base: &'a [u8], grown: &'a [u8]) -> Report
     requires { ⌜ Bounded h ⌝ }
-    ensures { λ r. ⌜ r ≡ judgedReport (tables h (now (vertices .entry)) (now (records .entry))) ⌝ }
+    ensures { λ r. ⌜ r ≡ judgedReport (tables h l (now (base .entry)) (now (grown .entry))) ⌝ }
 {
-    if check_places::bad_vertices(h, vertices, records) {
+    if check_places::bad_vertices(h, l, base, grown) {
         return refused(4);
     }
-    if check_pieces::bad_base_records(h, vertices, records) {
+    if check_pieces::bad_base_records(h, l, base, grown) {
         return refused(5);
     }
-    if check_pieces::bad_base_marks(h, vertices, records) {
+    if check_pieces::bad_base_marks(h, l, base, grown) {
         return refused(6);
     }
-    if check_faces::bad_base_faces(h, vertices, records) {
+    if check_faces::bad_base_faces(h, l, base, grown) {
         return refused(7);
     }
-    if check_uses::unused_vertices(h, vertices, records) {
+    if check_uses::unused_vertices(h, l, base, grown) {
         return refused(8);
     }
-    if check_children::bad_cuts(h, vertices, records) {
+    if check_children::bad_cuts(h, l, base, grown) {
         return refused(9);
     }
-    closed(h, vertices, records)
+    closed(h, l, base, grown)
 }
 
 pub fn check(mesh: &[u8]) -> Report
@@ -114,8 +116,8 @@ pub fn check(mesh: &[u8]) -> Report
         return refused(2);
     }
     let h = stored_headers::header_of(mesh);
-    if wrong_counts(h) {
+    if wrong_counts(stored::limits_of_version_1(), h) {
         return refused(3);
     }
-    judged(h, stored::vertices_of(mesh), stored::records_of(mesh))
+    judged(h, stored::layout_of(h), mesh, mesh)
 }

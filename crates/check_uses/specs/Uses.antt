@@ -12,6 +12,7 @@ use borrow.Author.Tests.{eqb-true, eqb-false, eq-eqb, ne-eqb, ltb-true, ltb-fals
 use Rattle.laws.specs.Below.{foldBelow, sumBelow, sum-none, sum-suc, sum-at-most, sum-at-least, anyBelow, any-where, any-fails-at, bit, bit-small, either}
 use Rattle.piece.specs.declared.Piece.{Piece}
 use Rattle.piece.specs.Ends.{cornerAt}
+use Rattle.stored.specs.Layout.{limits}
 use Rattle.check_refusals.specs.Tables.{Tables, pieceAt, baseRecords}
 use Rattle.check_refusals.specs.Refusals.{hasCorner, unusedVertex}
 
@@ -26,9 +27,9 @@ usedBy uses p = usedAt (usedAt (usedAt (usedAt uses (cornerAt p 0)) (cornerAt p 
 -- The table after the first n records, whose pieces are at.
 unfoldable pub usesAfter : (ℕ → Piece) → ℕ → List ℕ
 unfolding foldBelow
-usesAfter at n = foldBelow (replicate 1024 0) usedBy n at
+usesAfter at n = foldBelow (replicate (limits .vertices) 0) usedBy n at
 
-pub uses-none : (at : ℕ → Piece) → usesAfter at 0 ≡ replicate 1024 0
+pub uses-none : (at : ℕ → Piece) → usesAfter at 0 ≡ replicate (limits .vertices) 0
 unfolding usesAfter
 uses-none at = refl
 
@@ -78,13 +79,13 @@ used-by uses p v h =
       used-at (usedAt (usedAt (usedAt uses a) b) c) d v (simp length-set h),
     )
 
-pub uses-long : (at : ℕ → Piece) (n : ℕ) → length (usesAfter at n) ≡ 1024
-uses-long at zero = rw uses-none (length-replicate {A = ℕ} 1024 0)
+pub uses-long : (at : ℕ → Piece) (n : ℕ) → length (usesAfter at n) ≡ limits .vertices
+uses-long at zero = rw uses-none (length-replicate {A = ℕ} (limits .vertices) 0)
 uses-long at (suc n) = rw uses-suc (length-used-by (usesAfter at n) (at n) ∙ uses-long at n)
 
 -- What the table says of a vertex.
-pub uses-is : (at : ℕ → Piece) (n v : ℕ) → v < 1024 → getD (usesAfter at n) v 0 ≡ sumBelow n (λ r. cornerUses (at r) v)
-uses-is at zero v h = rw (uses-none, sum-none) (getD-replicate {A = ℕ} 1024 v 0 0 h)
+pub uses-is : (at : ℕ → Piece) (n v : ℕ) → v < limits .vertices → getD (usesAfter at n) v 0 ≡ sumBelow n (λ r. cornerUses (at r) v)
+uses-is at zero v h = rw (uses-none, sum-none) (getD-replicate {A = ℕ} (limits .vertices) v 0 0 h)
 uses-is at (suc n) v h =
     rw (uses-suc, sum-suc (λ r. cornerUses (at r) v) n, used-by (usesAfter at n) (at n) v (rw uses-long h), uses-is at n v h)
 
@@ -103,9 +104,9 @@ corner-uses-small p v =
 pub uses-small : (at : ℕ → Piece) (n v : ℕ) → getD (usesAfter at n) v 0 ≤ n * 4
 uses-small at n v =
     ⊎-elim
-    (λ t. rw (uses-is at n v (ltb-true v 1024 t)) (sum-at-most (λ r. cornerUses (at r) v) n 4 (λ k b. corner-uses-small (at k) v)))
-    (λ f. let past : getD (usesAfter at n) v 0 ≡ 0 = List·getD-eq-default (usesAfter at n) 0 (rw uses-long (ltb-false v 1024 f)) in rw past (omega arith))
-    (either (ltb v 1024))
+    (λ t. rw (uses-is at n v (ltb-true v (limits .vertices) t)) (sum-at-most (λ r. cornerUses (at r) v) n 4 (λ k b. corner-uses-small (at k) v)))
+    (λ f. let past : getD (usesAfter at n) v 0 ≡ 0 = List·getD-eq-default (usesAfter at n) 0 (rw uses-long (ltb-false v (limits .vertices) f)) in rw past (omega arith))
+    (either (ltb v (limits .vertices)))
 
 -- A corner is used, and what is used is a corner.
 corner-used : (p : Piece) (v : ℕ) → hasCorner p v ≡ true → 1 ≤ cornerUses p v
@@ -128,7 +129,7 @@ not-used p v e =
     omega (arith, at 0 (omega arith), at 1 (omega arith), at 2 (omega arith), at 3 (omega arith))
 
 -- A vertex is in no base record exactly if its count is 0.
-pub unused-is : (m : Tables) (v : ℕ) → v < 1024 → eqb (getD (usesAfter (pieceAt m) (baseRecords m)) v 0) 0 ≡ unusedVertex m v
+pub unused-is : (m : Tables) (v : ℕ) → v < limits .vertices → eqb (getD (usesAfter (pieceAt m) (baseRecords m)) v 0) 0 ≡ unusedVertex m v
 unfolding unusedVertex
 unused-is m v h = rw (uses-is (pieceAt m) (baseRecords m) v h) (⊎-elim used unused (either (anyBelow n has)))
   where

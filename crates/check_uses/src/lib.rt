@@ -1,18 +1,19 @@
 // Refusal 8: a table with one count for each possible vertex, filled from the base records and then read.
 use piece::Piece;
 use stored::Header;
+use stored::Layout;
 ghost use mathlib.Core.Path.{_≡_};
 ghost use Prim.Native.Nat.{ℕ, _≤_, _<_};
 ghost use lib.ListN.{getD, replicate};
 ghost use Rattle.laws.specs.Below.{anyBelow};
-ghost use Rattle.stored.specs.Layout.{recordIn};
+ghost use Rattle.stored.specs.Layout.{limits, recordIn};
 ghost use Rattle.check_refusals.specs.Tables.{tables};
 ghost use Rattle.check_refusals.specs.Refusals.{hasCorner, unusedVertex, unusedVertices};
 ghost use Rattle.check_uses.specs.Uses.{usedAt, usedBy, usesAfter};
 
 // One use more of vertex x, if the table has it.
 fn count_use(uses: &mut [u64], x: u32)
-    requires { ⌜ getD (now uses) x 0 < 1000000 ⌝ }
+    requires { ⌜ getD (now uses) x 0 < 1000000000000 ⌝ }
     ensures { λ _. ⌜ now (uses .exit) ≡ usedAt (now (uses .entry)) x ⌝ }
 {
     let at = x as usize;
@@ -22,7 +23,7 @@ fn count_use(uses: &mut [u64], x: u32)
 }
 
 fn count_corners(uses: &mut [u64], p: Piece)
-    requires { ⌜ ((k : ℕ) → getD (now uses) k 0 < 900000) ⌝ }
+    requires { ⌜ ((k : ℕ) → getD (now uses) k 0 < 900000000000) ⌝ }
     ensures { λ _. ⌜ now (uses .exit) ≡ usedBy (now (uses .entry)) p ⌝ }
 {
     count_use(uses, piece::corner(p, 0));
@@ -31,32 +32,32 @@ fn count_corners(uses: &mut [u64], p: Piece)
     count_use(uses, piece::corner(p, 3));
 }
 
-fn count_record(uses: &mut [u64], records: &[u8], n: usize)
-    requires { ⌜ ((k : ℕ) → getD (now uses) k 0 < 900000) ⌝ }
-    ensures { λ _. ⌜ now (uses .exit) ≡ usedBy (now (uses .entry)) (recordIn (now (records .entry)) n .piece) ⌝ }
+fn count_record<'a>(uses: &mut [u64], l: Layout, base: &'a [u8], grown: &'a [u8], n: usize)
+    requires { ⌜ ((k : ℕ) → getD (now uses) k 0 < 900000000000) ⌝ }
+    ensures { λ _. ⌜ now (uses .exit) ≡ usedBy (now (uses .entry)) (recordIn l (now (base .entry)) (now (grown .entry)) n .piece) ⌝ }
 {
-    let record = stored_entries::record_in(records, n);
+    let record = stored_entries::record_in(l, base, grown, n);
     let p = record.piece;
     count_corners(uses, p);
 }
 
-fn count_records(uses: &mut [u64], records: &[u8], count: usize)
-    requires { ⌜ (now uses ≡ replicate 1024 0) × (count ≤ 3072) ⌝ }
-    ensures { λ _. ⌜ now (uses .exit) ≡ usesAfter (λ r. recordIn (now (records .entry)) r .piece) count ⌝ }
+fn count_records<'a>(uses: &mut [u64], l: Layout, base: &'a [u8], grown: &'a [u8], count: usize)
+    requires { ⌜ (now uses ≡ replicate (limits .vertices) 0) × (count < 4294967296) ⌝ }
+    ensures { λ _. ⌜ now (uses .exit) ≡ usesAfter (λ r. recordIn l (now (base .entry)) (now (grown .entry)) r .piece) count ⌝ }
 {
     let mut n: usize = 0;
     while n < count {
-        count_record(uses, records, n);
+        count_record(uses, l, base, grown, n);
         n += 1;
     }
 }
 
-fn unused_by_table(h: Header, vertices: &[u8], records: &[u8]) -> bool
-    requires { ⌜ (h .«base_vertices» ≤ 1024) × (h .«base_records» ≤ 3072) ⌝ }
-    ensures { λ r. ⌜ r ≡ unusedVertices (tables h (now (vertices .entry)) (now (records .entry))) ⌝ }
+fn unused_by_table<'a>(h: Header, l: Layout, base: &'a [u8], grown: &'a [u8]) -> bool
+    requires { ⌜ h .«base_vertices» ≤ limits .vertices ⌝ }
+    ensures { λ r. ⌜ r ≡ unusedVertices (tables h l (now (base .entry)) (now (grown .entry))) ⌝ }
 {
-    let mut uses = [0u64; 1024];
-    count_records(&mut uses, records, h.base_records as usize);
+    let mut uses = [0u64; stored::VERTICES];
+    count_records(&mut uses, l, base, grown, h.base_records as usize);
     let count = h.base_vertices as usize;
     let mut v: usize = 0;
     while v < count {
@@ -68,20 +69,20 @@ fn unused_by_table(h: Header, vertices: &[u8], records: &[u8]) -> bool
     false
 }
 
-fn record_has(records: &[u8], n: usize, v: u32) -> bool
-    ensures { λ r. ⌜ r ≡ hasCorner (recordIn (now (records .entry)) n .piece) v ⌝ }
+fn record_has<'a>(l: Layout, base: &'a [u8], grown: &'a [u8], n: usize, v: u32) -> bool
+    ensures { λ r. ⌜ r ≡ hasCorner (recordIn l (now (base .entry)) (now (grown .entry)) n .piece) v ⌝ }
 {
-    let record = stored_entries::record_in(records, n);
+    let record = stored_entries::record_in(l, base, grown, n);
     let p = record.piece;
     check_refusals::has_corner(p, v)
 }
 
-fn is_used(records: &[u8], count: usize, v: u32) -> bool
-    ensures { λ r. ⌜ r ≡ anyBelow count (λ n. hasCorner (recordIn (now (records .entry)) n .piece) v) ⌝ }
+fn is_used<'a>(l: Layout, base: &'a [u8], grown: &'a [u8], count: usize, v: u32) -> bool
+    ensures { λ r. ⌜ r ≡ anyBelow count (λ n. hasCorner (recordIn l (now (base .entry)) (now (grown .entry)) n .piece) v) ⌝ }
 {
     let mut n: usize = 0;
     while n < count {
-        if record_has(records, n, v) {
+        if record_has(l, base, grown, n, v) {
             return true;
         }
         n += 1;
@@ -89,19 +90,19 @@ fn is_used(records: &[u8], count: usize, v: u32) -> bool
     false
 }
 
-fn is_unused(h: Header, vertices: &[u8], records: &[u8], v: u32) -> bool
-    ensures { λ r. ⌜ r ≡ unusedVertex (tables h (now (vertices .entry)) (now (records .entry))) v ⌝ }
+fn is_unused<'a>(h: Header, l: Layout, base: &'a [u8], grown: &'a [u8], v: u32) -> bool
+    ensures { λ r. ⌜ r ≡ unusedVertex (tables h l (now (base .entry)) (now (grown .entry))) v ⌝ }
 {
-    !is_used(records, h.base_records as usize, v)
+    !is_used(l, base, grown, h.base_records as usize, v)
 }
 
-fn unused_by_search(h: Header, vertices: &[u8], records: &[u8]) -> bool
-    ensures { λ r. ⌜ r ≡ unusedVertices (tables h (now (vertices .entry)) (now (records .entry))) ⌝ }
+fn unused_by_search<'a>(h: Header, l: Layout, base: &'a [u8], grown: &'a [u8]) -> bool
+    ensures { λ r. ⌜ r ≡ unusedVertices (tables h l (now (base .entry)) (now (grown .entry))) ⌝ }
 {
     let count = h.base_vertices;
     let mut v: u32 = 0;
     while v < count {
-        if is_unused(h, vertices, records, v) {
+        if is_unused(h, l, base, grown, v) {
             return true;
         }
         v += 1;
@@ -109,15 +110,12 @@ fn unused_by_search(h: Header, vertices: &[u8], records: &[u8]) -> bool
     false
 }
 
-// The table has a place for each possible vertex; counts that refusal 3 refuses are served without it.
-pub fn unused_vertices(h: Header, vertices: &[u8], records: &[u8]) -> bool
-    ensures { λ r. ⌜ r ≡ unusedVertices (tables h (now (vertices .entry)) (now (records .entry))) ⌝ }
+// The table has a place for each possible vertex; a count that refusal 3 refuses is served without it.
+pub fn unused_vertices<'a>(h: Header, l: Layout, base: &'a [u8], grown: &'a [u8]) -> bool
+    ensures { λ r. ⌜ r ≡ unusedVertices (tables h l (now (base .entry)) (now (grown .entry))) ⌝ }
 {
-    if 1024 < h.base_vertices {
-        return unused_by_search(h, vertices, records);
+    if stored::VERTICES < h.base_vertices as usize {
+        return unused_by_search(h, l, base, grown);
     }
-    if 3072 < h.base_records {
-        return unused_by_search(h, vertices, records);
-    }
-    unused_by_table(h, vertices, records)
+    unused_by_table(h, l, base, grown)
 }

@@ -9,10 +9,10 @@ use lib.ListN.{length}
 use lib.Dec.{eqb, ltb}
 use borrow.Author.Tests.{eqb-true, eqb-false, eq-eqb, ne-eqb, ltb-true, ltb-false, not-true}
 use Rattle.laws.specs.Below.{foldBelow, allBelow, firstBelow, all-at, and-left, and-right, or-second, or-left-false, or-right-false, either}
-use Rattle.piece_edges.specs.Edges.{lowSlot, highSlot, hasSlot, joins, edgeBetween, onFace, opposite}
-use Rattle.piece.specs.Shape.{Shape, mark, markFits, flagFits, validShape}
+use Rattle.laws.specs.Pairs.{SamePair}
+use Rattle.piece_edges.specs.Edges.{lowSlot, highSlot, hasSlot, joins, edgeBetween, onFace, opposite, slots-small}
+use Rattle.piece.specs.Shape.{Shape, mark, markFits, flagFits, validShape, Valid}
 use Rattle.piece.specs.Every.{onlyIf, onlyIf-holds}
-use Rattle.piece_cut.specs.Theorems.{Valid, SamePair, slots-small}
 use Rattle.cuts_names.specs.Names.{Name, mid, mid-sym, mid-injective, level}
 use Rattle.cuts_names.specs.Pieces.{Piece, Side, renamed, midOf, pieceDown}
 use Rattle.cuts_names.specs.Lists.{same-tests}

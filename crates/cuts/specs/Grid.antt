@@ -5,8 +5,7 @@ use Prim.Native.Nat.{ℕ, zero, suc, _+_, _-_, _*_, _/_, _^_, _<_, _≤_, max}
 use native.Mathlib.Omega.{arith}
 use native.Mathlib.Nat.{mul-assoc, mul-add, add-mul, pow-suc, two-pow-succ}
 use lib.Dec.{eqb}
-use Rattle.piece_edges.specs.Edges.{lowSlot, highSlot}
-use Rattle.piece_cut.specs.Theorems.{slots-small}
+use Rattle.piece_edges.specs.Edges.{lowSlot, highSlot, slots-small}
 use Rattle.cuts_names.specs.Lists.{either-has}
 use Rattle.cuts_names.specs.Names as Names
 use Rattle.cuts_names.specs.Names.{Name, mid, level, level-mid}

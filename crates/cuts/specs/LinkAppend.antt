@@ -7,10 +7,9 @@ use native.Mathlib.Omega.{arith}
 use lib.Dec.{eqb, ltb}
 use borrow.Author.Tests.{eqb-true, eqb-false, ltb-true, ltb-false}
 use Rattle.laws.specs.Below.{either}
-use Rattle.piece_edges.specs.Edges.{lowSlot, highSlot}
+use Rattle.piece_edges.specs.Edges.{lowSlot, highSlot, slots-small}
 use Rattle.piece.specs.Shape.{Shape, mark}
 use Rattle.piece_cut.specs.Cut.{childShape}
-use Rattle.piece_cut.specs.Theorems.{slots-small}
 use Rattle.cuts_names.specs.Lists.{both-ways}
 use Rattle.cuts_names.specs.Names.{mid}
 use Rattle.cuts_names.specs.Pieces.{Side, low, high, Node, kid}

@@ -6,9 +6,9 @@ use native.Mathlib.Omega.{arith}
 use lib.Dec.{ltb}
 use borrow.Author.Tests.{ltb-true, ltb-false, lt-ltb, le-ltb}
 use Rattle.laws.specs.Below.{either}
+use Rattle.laws.specs.Pairs.{SamePair}
 use Rattle.piece_edges.specs.Edges.{lowSlot, highSlot}
 use Rattle.piece.specs.Shape.{mark}
-use Rattle.piece_cut.specs.Theorems.{SamePair}
 use Rattle.cuts_names.specs.Names as Names
 use Rattle.cuts_names.specs.Names.{Name, mid, mid-sym, mid-injective, mid-not-base}
 use Rattle.cuts_names.specs.Base.{Marked, HasCorner, OnFace}

@@ -10,8 +10,7 @@ use lib.Dec.{eqb}
 use borrow.Author.Tests.{eqb-true, eq-eqb, ne-eqb, lt-ltb, le-ltb}
 use Rattle.laws.specs.Below.{either, and-left, and-right, or-true, or-second, any-is, first-where}
 use Rattle.piece_edges.specs.Edges.{lowSlot, highSlot}
-use Rattle.piece.specs.Shape.{slotA, slotB}
-use Rattle.piece_cut.specs.Theorems.{Valid}
+use Rattle.piece.specs.Shape.{slotA, slotB, Valid}
 use Rattle.cuts_names.specs.Lists.{either-has}
 use Rattle.cuts_names.specs.Names.{Name, mid}
 use Rattle.cuts_names.specs.Pieces.{Piece, Side, low, high, endAt, renamed, child-renamed, childWith, child, Node, kid, makes, pieceAt, piece-root, piece-kid}

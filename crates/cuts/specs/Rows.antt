@@ -10,9 +10,8 @@ use lib.ListN.{length, getD}
 use lib.Dec.{eqb, ltb}
 use borrow.Author.Tests.{eqb-true, eqb-false}
 use Rattle.laws.specs.Below.{bit, either, anyBelow, listBelow}
-use Rattle.piece.specs.Shape.{Shape, mark}
+use Rattle.piece.specs.Shape.{Shape, mark, Valid}
 use Rattle.piece.specs.Every.{shaped}
-use Rattle.piece_cut.specs.Theorems.{Valid}
 use Rattle.cuts_names.specs.Names as Names
 use Rattle.cuts_names.specs.Lists.{among, passing}
 use Rattle.cuts_names.specs.Names.{Name, mid, named}

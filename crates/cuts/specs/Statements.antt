@@ -6,9 +6,9 @@ use mathlib.Core.List.{List, []}
 use Prim.Native.Nat.{ℕ, suc, _+_, _-_, _*_, _/_, _<_, _≤_, max}
 use lib.ListN.{length}
 use Rattle.laws.specs.Below.{countBelow}
+use Rattle.laws.specs.Pairs.{SamePair}
 use Rattle.piece_edges.specs.Edges.{lowSlot, highSlot}
-use Rattle.piece.specs.Shape.{Shape, slotA, slotB}
-use Rattle.piece_cut.specs.Theorems.{Valid, SamePair}
+use Rattle.piece.specs.Shape.{Shape, slotA, slotB, Valid}
 use Rattle.cuts_names.specs.Names as Names
 use Rattle.cuts_names.specs.Names.{Name, mid, level}
 use Rattle.cuts_names.specs.Pieces.{Piece, Side, low, high, childWith, renamed, makes, child, Node, generation, kid, pieceDown, pieceAt}

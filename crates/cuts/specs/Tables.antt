@@ -7,10 +7,10 @@ use mathlib.Core.List.{[]}
 use Prim.Native.Nat.{ℕ, suc, _≤_, _<_}
 use lib.Dec.{eqb, ltb}
 use Rattle.laws.specs.Below.{anyBelow, firstBelow}
+use Rattle.laws.specs.Pairs.{SamePair}
 use Rattle.piece_edges.specs.Edges.{lowSlot, highSlot}
-use Rattle.piece.specs.Shape.{Shape, mark}
+use Rattle.piece.specs.Shape.{Shape, mark, Valid}
 use Rattle.piece_cut.specs.Cut.{childShape}
-use Rattle.piece_cut.specs.Theorems.{Valid, SamePair}
 use Rattle.cuts_names.specs.Names as Names
 use Rattle.cuts_names.specs.Names.{Name, mid}
 use Rattle.cuts_names.specs.Pieces.{Piece, Side, low, high, put, Node, kid}

@@ -10,10 +10,10 @@ use lib.ListN.{length, getD}
 use lib.Dec.{eqb, ltb}
 use borrow.Author.Tests.{eqb-true, eqb-false, eq-eqb, ne-eqb, ltb-true, lt-ltb, le-ltb, not-true}
 use Rattle.laws.specs.Below.{foldBelow, allBelow, anyBelow, sumBelow, sum-same, all-at, any-where, any-is, and-left, and-right, or-second, either, bit, listBelow, list-at}
-use Rattle.piece_edges.specs.Edges.{lowSlot, highSlot, hasSlot, opposite}
-use Rattle.piece.specs.Shape.{Shape, mark, unset}
+use Rattle.laws.specs.Pairs.{SamePair}
+use Rattle.piece_edges.specs.Edges.{lowSlot, highSlot, hasSlot, opposite, slots-small}
+use Rattle.piece.specs.Shape.{Shape, mark, unset, Valid}
 use Rattle.piece.specs.Every.{everyShape, every-shape, onlyIf, onlyIf-holds}
-use Rattle.piece_cut.specs.Theorems.{Valid, SamePair, slots-small}
 use Rattle.cuts_names.specs.Pieces.{Piece, Side, low, high}
 use Rattle.cuts_names.specs.Three.{formal, formalDown}
 use Rattle.cuts_names.specs.Macro.{everyBelow, every-below, computed, formal-small}

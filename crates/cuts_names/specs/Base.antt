@@ -1,9 +1,9 @@
--- A properly marked base: what refusals 5 to 7 leave of a base mesh, over names.
+-- A marked base, over names: what the theory of cuts needs of a base mesh. It is less than refusals 4 to 8 ask: nothing here speaks of
+-- places, so a piece may be flat, and a face may be in three pieces.
 use mathlib.Core.Path.{_≡_}
 use mathlib.Core.Logic.{_≢_, _↔_}
 use Prim.Native.Nat.{ℕ, _<_}
-use Rattle.piece.specs.Shape.{mark}
-use Rattle.piece_cut.specs.Theorems.{Valid}
+use Rattle.piece.specs.Shape.{mark, Valid}
 use Rattle.cuts_names.specs.Names as Names
 use Rattle.cuts_names.specs.Names.{Name}
 use Rattle.cuts_names.specs.Pieces.{Piece, midOf}

@@ -9,11 +9,11 @@ use lib.ListN.{length}
 use lib.Dec.{eqb, ltb}
 use borrow.Author.Tests.{eqb-true, eq-eqb, ltb-true, ltb-false, lt-ltb, le-ltb, not-true}
 use Rattle.laws.specs.Below.{foldBelow, allBelow, firstBelow, all-at, and-left, and-right, or-true, or-second, either}
-use Rattle.piece_edges.specs.Edges.{lowSlot, highSlot, hasSlot, otherEnd, joins, edgeBetween, onFace, opposite, oppositeOn, shares, sharedSlot}
-use Rattle.piece.specs.Shape.{Shape, unset, slotA, slotB, edgeCD, slotC, slotD, otherMarksAre, typeP, typeA, typeO, typeM, setP, unsetP, markFits, flagFits, validShape}
+use Rattle.piece_edges.specs.Edges.{lowSlot, highSlot, hasSlot, otherEnd, joins, edgeBetween, onFace, opposite, oppositeOn, shares, sharedSlot, slots-small}
+use Rattle.piece.specs.Shape.{Shape, unset, slotA, slotB, edgeCD, slotC, slotD, otherMarksAre, typeP, typeA, typeO, typeM, setP, unsetP, markFits, flagFits, validShape, Valid}
 use Rattle.piece_cut.specs.Cut.{newMark, childFlag, childMark, childShape}
 use Rattle.piece.specs.Every.{everyShape, every-shape, onlyIf, onlyIf-holds}
-use Rattle.piece_cut.specs.Theorems.{Valid, child-is-valid, slots-small}
+use Rattle.piece_cut.specs.Theorems.{child-is-valid}
 use Rattle.cuts_names.specs.Names.{Name, mid, level, level-base, level-mid}
 use Rattle.cuts_names.specs.Pieces.{Piece, Side, low, high, endAt, childWith, renamed, child-renamed, midOf, makes, child, Node, generation, pieceDown, pieceAt}
 use Rattle.cuts_names.specs.Base.{Marked}

@@ -8,7 +8,7 @@ use native.Mathlib.Nat.{max-comm}
 use lib.Dec.{ltb, eqb}
 use borrow.Author.Tests.{eqb-true, eqb-false, ltb-true, ltb-false, lt-ltb, le-ltb, eq-eqb, ne-eqb}
 use Rattle.laws.specs.Below.{either}
-use Rattle.piece_cut.specs.Theorems.{SamePair}
+use Rattle.laws.specs.Pairs.{SamePair}
 use Rattle.cuts_names.specs.Lists.{Equality}
 
 pub data Name : Type 0 where

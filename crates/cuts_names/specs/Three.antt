@@ -4,8 +4,7 @@ use mathlib.Core.Bool.{cond}
 use mathlib.Core.List.{List, [], _∷_}
 use Prim.Native.Nat.{ℕ, suc, _+_, _-_, _<_, _≤_}
 use lib.Dec.{ltb}
-use Rattle.piece.specs.Shape.{Shape}
-use Rattle.piece_cut.specs.Theorems.{Valid}
+use Rattle.piece.specs.Shape.{Shape, Valid}
 use Rattle.cuts_names.specs.Names.{Name, level}
 use Rattle.cuts_names.specs.Pieces.{Piece, Side, childWith, midOf}
 

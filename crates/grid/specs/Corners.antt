@@ -1,16 +1,12 @@
 -- Corners by their slots: one put in another's place, two exchanged, and a point halfway between two.
 -- Assumes nothing.
 use mathlib.Core.Path.{_≡_}
-use mathlib.Core.Bool.{cond}
 use Prim.Native.Nat.{ℕ}
-use lib.Dec.{eqb}
 use lib.IntN.{_+ℤ_}
+use Rattle.laws.specs.Below.{putAt}
 use Rattle.grid.specs.Places.{Point}
 
--- the corners with w in slot i, all else in its slot
-abbrev pub putAt : ℕ → Point → (ℕ → Point) → ℕ → Point
-putAt i w corner k = cond (eqb k i) w (corner k)
-
+-- the corners in slots i and j exchanged, all else in its slot
 abbrev pub exchanged : ℕ → ℕ → (ℕ → Point) → ℕ → Point
 exchanged i j corner = putAt i (corner j) (putAt j (corner i) corner)
 

@@ -11,7 +11,7 @@ use lib.IntN.{ℤ, pos, natAbs, subℕ, _-ℤ_}
 use Rattle.algebra.specs.Solver.{variable, number, minus, solve}
 use Rattle.algebra.specs.Absolute.{difference-cases, difference-is, abs-difference, abs-difference-is}
 use Rattle.grid.specs.declared.Place.{Place}
-use Rattle.grid.specs.Places.{coordinate, coordinateOnGrid}
+use Rattle.grid.specs.Places.{greatestPlace, coordinate, coordinateOnGrid}
 
 -- coordinates differ as their places do
 pub coordinates-differ : (p q : ℕ) → coordinate p -ℤ coordinate q ≡ subℕ p q
@@ -31,9 +31,9 @@ apart-within k p q h l = subst⁻¹ (λ (z : ℤ). natAbs z ≤ k) (coordinates-
 
 -- a place that three u16 hold
 pub record Held (p : Place) : Type 0 where
-  pub x : p .x ≤ 65535
-  pub y : p .y ≤ 65535
-  pub z : p .z ≤ 65535
+  pub x : p .x ≤ greatestPlace
+  pub y : p .y ≤ greatestPlace
+  pub z : p .z ≤ greatestPlace
 
 -- the absolute value of the coordinate at p, by the side of 32,768 on which p lies
 coordinate-cases : (p : ℕ) (P : ℕ → Type 0) → (p < 32768 → P (32768 - p)) → (32768 ≤ p → P (p - 32768)) → P (natAbs (coordinate p))

@@ -10,6 +10,10 @@ use Rattle.grid.specs.declared.Place.{Place}
 unfoldable pub coordinate : ℕ → ℤ
 coordinate p = pos p -ℤ pos 32768
 
+-- the greatest place, and how far apart two coordinates are at most
+abbrev pub greatestPlace : ℕ
+greatestPlace = 65535
+
 pub record Point : Type 0 where
   pub x : ℤ
   pub y : ℤ

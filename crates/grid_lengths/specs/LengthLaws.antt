@@ -7,20 +7,20 @@ use native.Mathlib.Omega.{arith}
 use lib.IntN.{ℤ, pos, natAbs, _+ℤ_, _-ℤ_}
 use Rattle.algebra.specs.Absolute.{abs-times, abs-difference-swap, square-is}
 use Rattle.grid.specs.declared.Place.{Place}
-use Rattle.grid.specs.Places.{Point, coordinate, pointOf}
+use Rattle.grid.specs.Places.{greatestPlace, Point, coordinate, pointOf}
 use Rattle.grid_lengths.specs.Lengths.{square, squaredLength}
 use Rattle.grid.specs.PlaceLaws.{Held, apart-is, apart-within}
 
 -- r is the square of how far apart the coordinates of two places are
 pub record SquaredDifference (p q r : ℕ) : Type 0 where
   pub is : r ≡ natAbs (square (coordinate p -ℤ coordinate q))
-  pub small : r ≤ 65535 * 65535
+  pub small : r ≤ greatestPlace * greatestPlace
 
 square-swap : (a b : ℤ) → natAbs (square (a -ℤ b)) ≡ natAbs (square (b -ℤ a))
 square-swap a b = abs-times (a -ℤ b) (a -ℤ b) ∙ ap (λ (n : ℕ). n * n) (abs-difference-swap a b) ∙ sym (abs-times (b -ℤ a) (b -ℤ a))
 
 -- the greater of two places less the smaller, squared, for either order of the two
-pub squared-down : (p q : ℕ) → q ≤ p → p ≤ 65535 → SquaredDifference p q ((p - q) * (p - q))
+pub squared-down : (p q : ℕ) → q ≤ p → p ≤ greatestPlace → SquaredDifference p q ((p - q) * (p - q))
 squared-down p q h l =
     let d = coordinate p -ℤ coordinate q in
     record {
@@ -28,10 +28,10 @@ squared-down p q h l =
       small = mul-le-mul (below p q l) (below p q l);
     }
   where
-    below : (p q : ℕ) → p ≤ 65535 → p - q ≤ 65535
+    below : (p q : ℕ) → p ≤ greatestPlace → p - q ≤ greatestPlace
     below p q l = omega arith
 
-pub squared-up : (p q : ℕ) → p < q → q ≤ 65535 → SquaredDifference p q ((q - p) * (q - p))
+pub squared-up : (p q : ℕ) → p < q → q ≤ greatestPlace → SquaredDifference p q ((q - p) * (q - p))
 squared-up p q h l =
     let d = squared-down q p (omega arith) l in
     record { is = d .is ∙ square-swap (coordinate q) (coordinate p); small = d .small }
@@ -56,16 +56,16 @@ squared-length-swap p q =
     ∙ sym (squared-length-is q p)
 
 -- the squared length between two places is at most three times the square of 65,535
-pub squared-length-within : (a b : Place) → Held a → Held b → squaredLength (pointOf a) (pointOf b) ≤ 3 * (65535 * 65535)
+pub squared-length-within : (a b : Place) → Held a → Held b → squaredLength (pointOf a) (pointOf b) ≤ 3 * (greatestPlace * greatestPlace)
 squared-length-within a b h k =
-    subst⁻¹ (λ (n : ℕ). n ≤ 3 * (65535 * 65535)) (squared-length-is (pointOf a) (pointOf b))
+    subst⁻¹ (λ (n : ℕ). n ≤ 3 * (greatestPlace * greatestPlace)) (squared-length-is (pointOf a) (pointOf b))
     (sum (small (a .x) (b .x) (h .x) (k .x)) (small (a .y) (b .y) (h .y) (k .y)) (small (a .z) (b .z) (h .z) (k .z)))
   where
-    small : (p q : ℕ) → p ≤ 65535 → q ≤ 65535 → natAbs (square (coordinate p -ℤ coordinate q)) ≤ 65535 * 65535
+    small : (p q : ℕ) → p ≤ greatestPlace → q ≤ greatestPlace → natAbs (square (coordinate p -ℤ coordinate q)) ≤ greatestPlace * greatestPlace
     small p q h k =
         let d = coordinate p -ℤ coordinate q in
-        subst⁻¹ (λ (n : ℕ). n ≤ 65535 * 65535) (abs-times d d)
-        (mul-le-mul (apart-within 65535 p q h k) (apart-within 65535 p q h k))
+        subst⁻¹ (λ (n : ℕ). n ≤ greatestPlace * greatestPlace) (abs-times d d)
+        (mul-le-mul (apart-within greatestPlace p q h k) (apart-within greatestPlace p q h k))
 
-    sum : {l m n : ℕ} → l ≤ 65535 * 65535 → m ≤ 65535 * 65535 → n ≤ 65535 * 65535 → l + m + n ≤ 3 * (65535 * 65535)
+    sum : {l m n : ℕ} → l ≤ greatestPlace * greatestPlace → m ≤ greatestPlace * greatestPlace → n ≤ greatestPlace * greatestPlace → l + m + n ≤ 3 * (greatestPlace * greatestPlace)
     sum h k l = omega arith

@@ -12,7 +12,8 @@ use mir.Facts.{and-yes}
 use Rattle.algebra.specs.Solver.{variable, number, plus, minus, times, agree, solve}
 use Rattle.grid.specs.Places.{Point}
 use Rattle.grid_volume.specs.Volume.{determinantOf, differencesOf}
-use Rattle.grid.specs.Corners.{putAt, exchanged, Midpoint}
+use Rattle.laws.specs.Below.{putAt}
+use Rattle.grid.specs.Corners.{exchanged, Midpoint}
 use Rattle.grid_volume.specs.Formal.{Formal, pointAt, formalDeterminant, formal-is, same-corners}
 
 -- ---- a test at every pair of different slots

@@ -5,7 +5,8 @@ use Prim.Native.Nat.{ℕ}
 use lib.IntN.{pos}
 use Rattle.grid.specs.Places.{Point}
 use Rattle.grid_volume.specs.Volume.{minorOf, determinantOf, differenceOf, differencesOf, sixfoldOf, cornersOf}
-use Rattle.grid.specs.Corners.{putAt, Midpoint}
+use Rattle.laws.specs.Below.{putAt}
+use Rattle.grid.specs.Corners.{Midpoint}
 
 abbrev point : ℕ → ℕ → ℕ → Point
 point x y z = record { x = pos x; y = pos y; z = pos z }

@@ -9,7 +9,8 @@ use lib.IntN.{pos, natAbs, +ℤ-comm}
 use Rattle.algebra.specs.Absolute.{abs-neg, abs-times}
 use Rattle.grid.specs.Places.{Point}
 use Rattle.grid_volume.specs.Volume.{determinantOf, differencesOf, sixfoldOf}
-use Rattle.grid.specs.Corners.{putAt, exchanged, Midpoint}
+use Rattle.laws.specs.Below.{putAt}
+use Rattle.grid.specs.Corners.{exchanged, Midpoint}
 use Rattle.grid_volume.specs.Halving.{determinant-halved, determinant-turned}
 
 -- The piece with an edge's midpoint in place of one of its ends has exactly half the sixfold volume.

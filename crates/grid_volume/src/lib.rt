@@ -3,7 +3,7 @@ use grid::Place;
 ghost use mathlib.Core.Path.{_≡_};
 ghost use Prim.Native.Nat.{_*_, _^_, _≤_};
 ghost use lib.IntN.{natAbs, _+ℤ_, _-ℤ_, _*ℤ_};
-ghost use Rattle.grid.specs.Places.{pointOf};
+ghost use Rattle.grid.specs.Places.{greatestPlace, pointOf};
 ghost use Rattle.grid_volume.specs.Volume.{determinantOf, sixfoldOf, cornersOf};
 ghost use Rattle.grid_volume.specs.VolumeLaws.{Within, Difference};
 
@@ -20,7 +20,7 @@ fn difference(p: Place, q: Place) -> [i64; 3]
 
 // What two rows have in two columns, a b above c d.
 fn minor(a: i64, b: i64, c: i64, d: i64) -> i64
-    requires { ⌜ (natAbs a ≤ 65535) × (natAbs b ≤ 65535) × (natAbs c ≤ 65535) × (natAbs d ≤ 65535) ⌝ }
+    requires { ⌜ (natAbs a ≤ greatestPlace) × (natAbs b ≤ greatestPlace) × (natAbs c ≤ greatestPlace) × (natAbs d ≤ greatestPlace) ⌝ }
     ensures { λ r. ⌜ r ≡ a *ℤ d -ℤ b *ℤ c ⌝ }
 {
     a * d - b * c
@@ -28,8 +28,8 @@ fn minor(a: i64, b: i64, c: i64, d: i64) -> i64
 
 // The first row a b c with its minors x y z.
 fn row_sum(a: i64, b: i64, c: i64, x: i64, y: i64, z: i64) -> i64
-    requires { ⌜ (natAbs a ≤ 65535) × (natAbs b ≤ 65535) × (natAbs c ≤ 65535) ⌝ }
-    requires { ⌜ (natAbs x ≤ 2 * 65535 ^ 2) × (natAbs y ≤ 2 * 65535 ^ 2) × (natAbs z ≤ 2 * 65535 ^ 2) ⌝ }
+    requires { ⌜ (natAbs a ≤ greatestPlace) × (natAbs b ≤ greatestPlace) × (natAbs c ≤ greatestPlace) ⌝ }
+    requires { ⌜ (natAbs x ≤ 2 * greatestPlace ^ 2) × (natAbs y ≤ 2 * greatestPlace ^ 2) × (natAbs z ≤ 2 * greatestPlace ^ 2) ⌝ }
     ensures { λ r. ⌜ r ≡ a *ℤ x -ℤ b *ℤ y +ℤ c *ℤ z ⌝ }
 {
     a * x - b * y + c * z
@@ -37,7 +37,7 @@ fn row_sum(a: i64, b: i64, c: i64, x: i64, y: i64, z: i64) -> i64
 
 // Along the first row; the bound on the entries keeps every step within i64.
 fn determinant(m: [[i64; 3]; 3]) -> i64
-    requires { ⌜ Within 65535 m ⌝ }
+    requires { ⌜ Within greatestPlace m ⌝ }
     ensures { λ r. ⌜ r ≡ determinantOf m ⌝ }
 {
     let p = m[0];
@@ -51,7 +51,7 @@ fn determinant(m: [[i64; 3]; 3]) -> i64
 
 // The bound keeps the number away from the least i64, which has no negative.
 fn absolute(z: i64) -> u64
-    requires { ⌜ natAbs z ≤ 6 * 65535 ^ 3 ⌝ }
+    requires { ⌜ natAbs z ≤ 6 * greatestPlace ^ 3 ⌝ }
     ensures { λ r. ⌜ r ≡ natAbs z ⌝ }
 {
     if z < 0 {

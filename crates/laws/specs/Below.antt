@@ -2,14 +2,14 @@
 -- where it begins, after one more turn, and what the answer says of each number.
 use mathlib.Core.Path.{_≡_, refl, sym, ap, ap₂, _∙_, subst}
 use mathlib.Core.Bool.{Bool, true, false, cond, _&&_, _||_, true≢false, false≢true}
-use mathlib.Core.Logic.{_⊎_, inl, inr, ⊎-elim}
+use mathlib.Core.Logic.{_⊎_, inl, inr, ⊎-elim, _≢_}
 use Prim.Native.Nat.{ℕ, zero, suc, _+_, _*_, _≤_, _<_, max}
 use native.Mathlib.Nat.{not-suc-le-zero, le-of-suc-le-suc, eq-or-lt-of-le, le-refl, le-antisymm}
 use mathlib.Core.List.{List, [], _∷_, _++_}
 use lib.ListN.{length, getD, length-append, List·getD-append}
 use lib.Seq.{getD-at, ext-getD}
-use lib.Dec.{ltb}
-use borrow.Author.Tests.{lt-ltb, le-ltb}
+use lib.Dec.{ltb, eqb}
+use borrow.Author.Tests.{lt-ltb, le-ltb, eqb-true, eqb-false}
 use native.Mathlib.Numerals.{add-one}
 use native.Mathlib.Omega.{arith}
 
@@ -332,3 +332,18 @@ module _ {ℓ} {A : Type ℓ} (f : ℕ → A) where
   list-of d l h =
       ext-getD d (listBelow (length l) f) l (list-length (length l))
       (λ k b. let b′ : k < length l = subst (λ (m : ℕ). k < m) (list-length (length l)) b in list-at (length l) k d b′ ∙ sym (h k b′))
+
+-- ---- a function of the number, changed at one number
+
+abbrev pub putAt {ℓ} : {A : Type ℓ} → ℕ → A → (ℕ → A) → ℕ → A
+putAt i x f j = let other = f j in cond (eqb j i) x other
+
+pub put-is {ℓ} : {A : Type ℓ} (i : ℕ) (x : A) (f g : ℕ → A) → g i ≡ x → ((j : ℕ) → j ≢ i → g j ≡ f j) → g ≡ putAt i x f
+put-is i x f g here other = λ k j. at j k
+  where
+    at : (j : ℕ) → g j ≡ cond (eqb j i) x (f j)
+    at j =
+        ⊎-elim
+        (λ t. let e = eqb-true j i t in rw t (ap g e ∙ here))
+        (λ f. rw f (other j (eqb-false j i f)))
+        (either (eqb j i))

@@ -2,3 +2,4 @@
 pub mod Below
 pub mod Lists
 pub mod Numbers
+pub mod Pairs

@@ -137,10 +137,6 @@ module _ {ℓ} {A : Type ℓ} where
     copied-next i z h =
         rw (add-one i, take-suc s i z h, sets-append d at (take i s) (getD s i z ∷ []), length-take-le i s (omega arith))
 
-    pub copied-length : (n : ℕ) → length (copied d at s n) ≡ length d
-    unfolding copied
-    copied-length n = length-sets d at (take n s)
-
     -- it is done where all of s is written, and where d is full
     pub copied-all : (n : ℕ) → length s ≤ n → copied d at s n ≡ sets d at s
     unfolding copied
@@ -168,60 +164,27 @@ module _ {ℓ} {A : Type ℓ} where
       ap (set (copied d at (replicate n z) i) (at + i)) (sym (getD-replicate n i z z h))
       ∙ copied-next d at (replicate n z) i z (rw (length-replicate n z) h)
 
-  -- s copied to the front, and the rest cleared
-  pub copied-cleared : (d s : List A) (z : A) → length s ≤ length d → sets (sets d 0 s) (length s) (replicate (length d - length s) z) ≡ s ++ replicate (length d - length s) z
-  copied-cleared d s z h =
-      let rest : List A = replicate (length d - length s) z in
-      let long : length rest ≡ length d - length s = length-replicate (length d - length s) z in
-      ap (λ (k : ℕ). sets (sets d 0 s) k rest) (sym (zero-add (length s)))
-      ∙ sym (sets-append d 0 s rest)
-      ∙ sets-eq (s ++ rest) d 0 (rw (length-append s rest, long) (omega arith))
-      ∙ ap (λ (r : List A). [] ++ (s ++ rest) ++ r) (drop-of-length-le d {i = 0 + length (s ++ rest)} (rw (length-append s rest, long) (omega arith)))
-      ∙ append-nil (s ++ rest)
+-- ---- clearing
 
--- ---- a table of entries of one width, one of which is written
+-- a buffer that is clear, by its own length
+pub clear-itself : (t : List ℕ) (n : ℕ) → t ≡ replicate n 0 → t ≡ replicate (length t) 0
+clear-itself t n e = e ∙ ap (λ (k : ℕ). replicate {A = ℕ} k 0) (sym (ap length e ∙ length-replicate {A = ℕ} n 0))
 
-module _ {ℓ κ} {A : Type ℓ} {B : Type κ} (from : List B → A) (bytes : A → List B) (w : ℕ) (wide : (x : A) → length (bytes x) ≡ w) where
-  -- the entry is read back where it lies within the table
-  pub entry-same : (t : List B) (i : ℕ) (x : A) → ((rest : List B) → from (bytes x ++ rest) ≡ x) → w * i + w ≤ length t → from (drop (w * i) (sets t (w * i) (bytes x))) ≡ x
-  entry-same t i x again h = rw (sets-run t (w * i) (bytes x) (rw (wide x) h)) (again (drop (w * i + length (bytes x)) t))
+pub clear-long : (t : List ℕ) (n : ℕ) → t ≡ replicate n 0 → length t ≡ n
+clear-long t n e = ap length e ∙ length-replicate {A = ℕ} n 0
 
-  -- everything after it is as it was (everything before it, by `sets-before`)
-  pub entry-after : (t : List B) (i : ℕ) (x : A) (n : ℕ) → w * i + w ≤ n → drop n (sets t (w * i) (bytes x)) ≡ drop n t
-  entry-after t i x n h = sets-after t (w * i) (bytes x) n (rw (wide x) h)
+pub clear-next : (d : List ℕ) (i : ℕ) → i < length d → set (copied d 0 (replicate (length d) 0) i) i 0 ≡ copied d 0 (replicate (length d) 0) (i + 1)
+clear-next d i h =
+    ap (λ (k : ℕ). set (copied d 0 (replicate (length d) 0) i) k 0) (sym (zero-add i)) ∙ cleared-next d 0 (length d) i 0 h
 
-  -- and so is every other entry, since an entry is told by its own bytes
-  pub entry-other : ((s : List B) → from (take w s) ≡ from s) → (t : List B) (i j : ℕ) (x : A) → j ≢ i → from (drop (w * j) (sets t (w * i) (bytes x))) ≡ from (drop (w * j) t)
-  entry-other front t i j x ne =
-      ⊎-elim
-      (λ l.
-      sym (front (drop (w * j) (sets t (w * i) (bytes x))))
-      ∙ ap from (sets-part-before t (w * i) (bytes x) (w * j) w (next j i (ltb-true j i l)))
-      ∙ front (drop (w * j) t))
-      (λ g. ap from (entry-after t i x (w * j) (next i j (omega (arith, ltb-false j i g)))))
-      (either (ltb j i))
-    where
-      next : (a b : ℕ) → a < b → w * a + w ≤ w * b
-      next a b l = rw (← mul-suc w a) (mul-le-mul-left w l)
-
--- ---- a list by its elements, one of which is changed, or follows
-
-module _ {ℓ} {A : Type ℓ} (f g : ℕ → A) where
-  pub list-set : (n i : ℕ) (x : A) → i < n → g i ≡ x → ((k : ℕ) → k ≢ i → g k ≡ f k) → listBelow n g ≡ set (listBelow n f) i x
-  list-set n i x h here other =
-      ext-getD x (listBelow n g) (set (listBelow n f) i x) (list-length g n ∙ sym (length-set (listBelow n f) i x ∙ list-length f n)) at
-    where
-      at : (k : ℕ) → k < length (listBelow n g) → getD (listBelow n g) k x ≡ getD (set (listBelow n f) i x) k x
-      at k l =
-          let below : k < n = rw (list-length g n) at l in
-          list-at g n k x below
-          ∙ elim (ℕ-discrete k i) [
-            | yes e ↦ ap g e ∙ here ∙ sym (getD-set-same (listBelow n f) i x x (rw (list-length f n) h)) ∙ ap (λ (j : ℕ). getD (set (listBelow n f) i x) j x) (sym e)
-            | no ne ↦ other k ne ∙ sym (list-at f n k x below) ∙ sym (getD-set-other (listBelow n f) i k x x ne)
-          ]
-
-  pub list-more : (n : ℕ) (x : A) → g n ≡ x → ((k : ℕ) → k < n → g k ≡ f k) → listBelow (n + 1) g ≡ listBelow n f ++ x ∷ []
-  list-more n x here before = rw (add-one n, list-suc g n, here, list-same n g f before)
+pub clear-done : (d : List ℕ) (n : ℕ) → length d ≤ n → copied d 0 (replicate (length d) 0) n ≡ replicate (length d) 0
+clear-done d n h =
+    let zeros : List ℕ = replicate (length d) 0 in
+    let long : length zeros ≡ length d = length-replicate {A = ℕ} (length d) 0 in
+    copied-all d 0 zeros n (omega arith)
+    ∙ sets-eq zeros d 0 (omega arith)
+    ∙ ap (λ (r : List ℕ). zeros ++ r) (drop-of-length-le d {i = 0 + length zeros} (omega arith))
+    ∙ append-nil zeros
 
 -- ---- bytes
 

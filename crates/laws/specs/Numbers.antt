@@ -1,7 +1,7 @@
 -- Little-endian numbers, once over the width in bytes.
 use mathlib.Core.Path.{_≡_, refl, sym, ap, ap₂, _∙_}
 use Prim.Native.Nat.{ℕ, zero, suc, _+_, _*_, _/_, _%_, _^_, _≤_, _<_}
-use native.Mathlib.Nat.{le-of-lt, le-div-iff-mul-le, mul-comm, zero-add, add-zero, mul-assoc, pow-suc, pow-succ', mod-lt, mod-add-div, div-lt-iff-lt-mul, le-of-suc-le-suc, not-suc-le-zero, suc-add}
+use native.Mathlib.Nat.{le-of-lt, lt-of-le-of-lt, mul-le-mul-left, le-div-iff-mul-le, mul-comm, zero-add, add-zero, mul-assoc, pow-suc, pow-succ', mod-lt, mod-add-div, div-lt-iff-lt-mul, le-of-suc-le-suc, not-suc-le-zero, suc-add}
 use native.Mathlib.Numerals.{one-add}
 use native.Mathlib.Omega.{arith}
 use mathlib.Core.List.{List, [], _∷_, _++_}
@@ -87,3 +87,7 @@ entry-within w i n h e = rw (mul-comm w i) (le-div-iff-mul-le h .0 e)
 
 pub entry-beyond : (w i n : ℕ) → 0 < w → n / w < i → n ≤ w * i
 entry-beyond w i n h e = rw (mul-comm w i) (le-of-lt (div-lt-iff-lt-mul h .0 e))
+
+-- The product of two numbers of 32 bits fits 64.
+pub product-fits : (a b : ℕ) → a < 4294967296 → b < 4294967296 → a * b < 18446744073709551616
+product-fits a b ha hb = lt-of-le-of-lt (mul-le-mul-left a (le-of-lt hb)) (omega arith)

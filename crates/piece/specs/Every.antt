@@ -8,7 +8,8 @@ use native.Mathlib.Omega.{arith}
 use lib.ListN.{length, getD}
 use lib.Dec.{eqb, ltb}
 use borrow.Author.Tests.{ltb-true, eqb-true}
-use Rattle.laws.specs.Below.{allBelow, all-at, and-left, and-right, or-second, either, listBelow, list-of}
+use Rattle.laws.specs.Below.{allBelow, all-at, and-left, and-right, or-second, either}
+use Rattle.laws.specs.Lists.{four-of}
 use Rattle.piece_edges.specs.Edges.{onFace}
 use Rattle.piece.specs.Shape.{Shape, mark, unset, typeP, markFits, flagFits, validShape}
 
@@ -31,14 +32,9 @@ everyShape test =
     allBelow 6 λ e.
     allBelow 6 λ m₀. let rest₀ = (allBelow 6 λ m₁. let rest₁ = (allBelow 6 λ m₂. let rest₂ = (allBelow 6 λ m₃. let rest₃ = (allBelow 2 λ f. let s = shaped e m₀ m₁ m₂ m₃ f in let last = test s in onlyIf (flagFits s) last) in onlyIf (markFits e m₃ 3) rest₃) in onlyIf (markFits e m₂ 2) rest₂) in onlyIf (markFits e m₁ 1) rest₁) in onlyIf (markFits e m₀ 0) rest₀
 
--- A list of four is its four elements.
-pub four : {A : Type 0} (l : List A) (d : A) → length l ≡ 4 → l ≡ getD l 0 d ∷ getD l 1 d ∷ getD l 2 d ∷ getD l 3 d ∷ []
-unfolding listBelow
-four l d h = sym (subst (λ (n : ℕ). listBelow n (λ k. getD l k d) ≡ l) h (list-of (λ k. getD l k d) d l (λ k b. refl)))
-
 -- A shape with four marks is the shape with these.
 pub shaped-is : (s : Shape) → length (s .marks) ≡ 4 → s ≡ shaped (s .edge) (mark s 0) (mark s 1) (mark s 2) (mark s 3) (s .flag)
-shaped-is s h = ap (λ (ms : List ℕ). record { edge = s .edge; marks = ms; flag = s .flag }) (four (s .marks) 0 h)
+shaped-is s h = ap (λ (ms : List ℕ). record { edge = s .edge; marks = ms; flag = s .flag }) (sym (four-of (s .marks) 0 h))
 
 below-six : (edge m i : ℕ) → markFits edge m i ≡ true → m < 6
 unfolding markFits onFace

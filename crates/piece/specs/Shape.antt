@@ -1,10 +1,11 @@
 -- Document 01, "The marked piece": what a piece carries besides its corners, its types, and when it is valid.
-use mathlib.Core.Bool.{Bool, not, _&&_, _||_}
+use mathlib.Core.Bool.{Bool, true, not, _&&_, _||_}
 use mathlib.Core.List.{List}
 use Prim.Native.Nat.{ℕ}
-use lib.ListN.{getD}
+use lib.ListN.{length, getD}
 use lib.Dec.{eqb, ltb}
 use Rattle.laws.specs.Below.{allBelow}
+use mathlib.Core.Path.{_≡_}
 use Rattle.piece_edges.specs.Edges.{lowSlot, highSlot, edgeBetween, onFace, oppositeOn}
 use Rattle.piece.specs.declared.Piece.{Piece}
 
@@ -13,6 +14,10 @@ pub record Shape : Type 0 where
   pub edge : ℕ
   pub marks : List ℕ
   pub flag : ℕ
+
+-- "Generations go up to 15"
+abbrev pub lastGeneration : ℕ
+lastGeneration = 15
 
 abbrev pub shapeOf : Piece → Shape
 shapeOf p = record { edge = p .edge; marks = p .marks; flag = p .flag }
@@ -87,3 +92,8 @@ flagFits s = unset s || (eqb (s .flag) 1 && typeP s)
 
 unfoldable pub validShape : Shape → Bool
 validShape s = ltb (s .edge) 6 && (allBelow 4 (λ i. markFits (s .edge) (mark s i) i) && flagFits s)
+
+-- A valid shape: four marks, each on its face, both refinement faces marked with the refinement edge, the flag set only in type P.
+pub record Valid (s : Shape) : Type 0 where
+  pub four : length (s .marks) ≡ 4
+  pub valid : validShape s ≡ true

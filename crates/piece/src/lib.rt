@@ -3,6 +3,9 @@ ghost use mathlib.Core.Path.{_≡_};
 ghost use Rattle.piece.specs.Shape.{shapeOf, mark, markFits};
 ghost use Rattle.piece.specs.Ends.{cornerAt, lowerEnd, higherEnd, endsOf};
 
+// "Generations go up to 15."
+pub const LAST_GENERATION: u8 = 15;
+
 pub struct Piece {
     // Vertex numbers in slots 0 to 3.
     pub corners: [u32; 4],

@@ -9,16 +9,12 @@ use lib.ListN.{length, getD}
 use lib.Seq.{getD-set-same, getD-set-other}
 use lib.Dec.{eqb}
 use borrow.Author.Tests.{eqb-true, eqb-false, ne-eqb}
+use Rattle.laws.specs.Pairs.{SamePair}
 use Rattle.laws.specs.Below.{foldBelow, allBelow, firstBelow, all-at, and-left, and-right, or-second, either, bit}
-use Rattle.piece_edges.specs.Edges.{lowSlot, highSlot, hasSlot, otherEnd, joins, edgeBetween, onFace, opposite, oppositeOn, shares, sharedSlot}
-use Rattle.piece.specs.Shape.{Shape, mark, slotA, slotB, edgeCD, slotC, slotD, otherMarksAre, typeP, typeA, typeO, typeM, setP, unsetP, markFits, flagFits, validShape}
+use Rattle.piece_edges.specs.Edges.{lowSlot, highSlot, slots-small, hasSlot, otherEnd, joins, edgeBetween, onFace, opposite, oppositeOn, shares, sharedSlot}
+use Rattle.piece.specs.Shape.{Shape, Valid, mark, slotA, slotB, edgeCD, slotC, slotD, otherMarksAre, typeP, typeA, typeO, typeM, setP, unsetP, markFits, flagFits, validShape}
 use Rattle.piece_cut.specs.Cut.{newMark, childFlag, childMark, childShape, childCorners}
 use Rattle.piece.specs.Every.{everyShape, every-shape, onlyIf, onlyIf-holds}
-
--- A valid shape: four marks, each on its face, both refinement faces marked with the refinement edge, the flag set only in type P.
-pub record Valid (s : Shape) : Type 0 where
-  pub four : length (s .marks) ≡ 4
-  pub valid : validShape s ≡ true
 
 -- k is the slot of an end of the refinement edge.
 abbrev pub End : Shape → ℕ → Type 0
@@ -154,10 +150,6 @@ module _ (s : Shape) (v : Valid s) (k : ℕ) (end : End s k) where
 
 -- ---- the new face
 
--- Two pairs are the same, whichever way round.
-abbrev pub SamePair : {A : Type 0} → A → A → A → A → Type 0
-SamePair x y x′ y′ = ((x ≡ x′) × (y ≡ y′)) ⊎ ((x ≡ y′) × (y ≡ x′))
-
 abbrev samePair : ℕ → ℕ → ℕ → ℕ → Bool
 samePair x y x′ y′ = (eqb x x′ && eqb y y′) || (eqb x y′ && eqb y x′)
 
@@ -184,17 +176,6 @@ same-pair x y x′ y′ e =
     let t = or-second (eqb x x′ && eqb y y′) (eqb x y′ && eqb y x′) f e in
     inr (eqb-true x y′ (and-left (eqb x y′) (eqb y x′) t), eqb-true y x′ (and-right (eqb x y′) (eqb y x′) t)))
     (either (eqb x x′ && eqb y y′))
-
--- Every slot of every code is below 4.
-pub slots-small : (e : ℕ) → (lowSlot e < 4) × (highSlot e < 4)
-unfolding lowSlot highSlot
-slots-small zero = omega arith
-slots-small (suc zero) = omega arith
-slots-small (suc (suc zero)) = omega arith
-slots-small (suc (suc (suc zero))) = omega arith
-slots-small (suc (suc (suc (suc zero)))) = omega arith
-slots-small (suc (suc (suc (suc (suc zero))))) = omega arith
-slots-small (suc (suc (suc (suc (suc (suc e)))))) = omega arith
 
 module _ {A : Type 0} (corners : List A) (h : length corners ≡ 4) (w d : A) where
   -- What 4 and the numbers below it stand for.

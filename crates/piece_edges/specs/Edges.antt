@@ -2,7 +2,8 @@
 use mathlib.Core.Bool.{Bool, not, cond, _&&_, _||_}
 use mathlib.Core.List.{List, [], _∷_}
 use mathlib.Core.Path.{_≡_, sym}
-use Prim.Native.Nat.{ℕ, _≤_}
+use Prim.Native.Nat.{ℕ, zero, suc, _≤_, _<_}
+use native.Mathlib.Omega.{arith}
 use lib.ListN.{getD, List·getD-eq-default}
 use lib.Dec.{eqb, ltb}
 use Rattle.laws.specs.Below.{firstBelow}
@@ -23,6 +24,17 @@ low-past e h = sym (List·getD-eq-default (0 ∷ 0 ∷ 0 ∷ 1 ∷ 1 ∷ 2 ∷ [
 pub high-past : (e : ℕ) → 6 ≤ e → 0 ≡ highSlot e
 unfolding highSlot
 high-past e h = sym (List·getD-eq-default (1 ∷ 2 ∷ 3 ∷ 2 ∷ 3 ∷ 3 ∷ []) 0 h)
+
+-- Every slot of every code is below 4.
+pub slots-small : (e : ℕ) → (lowSlot e < 4) × (highSlot e < 4)
+unfolding lowSlot highSlot
+slots-small zero = omega arith
+slots-small (suc zero) = omega arith
+slots-small (suc (suc zero)) = omega arith
+slots-small (suc (suc (suc zero))) = omega arith
+slots-small (suc (suc (suc (suc zero)))) = omega arith
+slots-small (suc (suc (suc (suc (suc zero))))) = omega arith
+slots-small (suc (suc (suc (suc (suc (suc e)))))) = omega arith
 
 -- Slot k is an end of edge e.
 unfoldable pub hasSlot : ℕ → ℕ → Bool

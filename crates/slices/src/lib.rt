@@ -1,7 +1,7 @@
 // A slice read at an offset, whatever its length: past the end a byte reads as 0.
 ghost use mathlib.Core.Path.{_≡_};
 ghost use Prim.Native.Nat.{_*_, _<_};
-ghost use lib.ListN.{getD, drop};
+ghost use lib.ListN.{getD, take, drop};
 ghost use Rattle.laws.specs.Numbers.{number};
 
 pub fn byte(s: &[u8], at: usize) -> u8
@@ -14,6 +14,14 @@ pub fn after(s: &[u8], at: usize) -> &[u8]
     ensures { λ r. ⌜ now r ≡ drop at (now (s .entry)) ⌝ }
 {
     if at <= s.len() { &s[at..] } else { &s[..0] }
+}
+
+// The n bytes from at on, as far as there are any.
+pub fn part(s: &[u8], at: usize, n: usize) -> &[u8]
+    ensures { λ r. ⌜ now r ≡ take n (drop at (now (s .entry))) ⌝ }
+{
+    let rest = after(s, at);
+    if n <= rest.len() { &rest[..n] } else { rest }
 }
 
 // The little-endian number of two bytes.

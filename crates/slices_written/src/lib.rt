@@ -1,7 +1,7 @@
 // A slice written at an offset, whatever its length: past the end nothing is written.
 ghost use mathlib.Core.Path.{_≡_};
-ghost use Prim.Native.Nat.{_*_, _≤_, min};
-ghost use lib.ListN.{length};
+ghost use Prim.Native.Nat.{_≤_, min};
+ghost use lib.ListN.{length, replicate};
 ghost use lib.Seq.{sets};
 
 fn fewer(a: usize, b: usize) -> usize
@@ -30,13 +30,12 @@ pub fn put(s: &mut [u8], at: usize, bytes: &[u8])
     }
 }
 
-// Entry i of a table whose entries have one width.
-pub fn put_entry(table: &mut [u8], i: usize, width: usize, bytes: &[u8])
-    ensures { λ _. ⌜ now (table .exit) ≡ sets (now (table .entry)) (width * i) (now (bytes .entry)) ⌝ }
+pub fn clear(s: &mut [u8])
+    ensures { λ _. ⌜ now (s .exit) ≡ replicate (length (now (s .entry))) 0 ⌝ }
 {
-    if width == 0 {
-        put(table, 0, bytes);
-    } else if i <= table.len() / width {
-        put(table, width * i, bytes);
+    let mut i: usize = 0;
+    while i < s.len() {
+        s[i] = 0;
+        i += 1;
     }
 }

@@ -1,23 +1,21 @@
--- A header, a vertex and a record by themselves: their bytes are as long as the document says, say what was written, and are told
--- apart by nothing that follows them.
+-- A header, a vertex and a record by themselves: their bytes are as long as the document says and say what was written.
 use mathlib.Core.Path.{_≡_, refl, sym, ap, ap₂, _∙_}
 use mathlib.Core.Bool.{Bool, true, _&&_}
 use Prim.Native.Nat.{ℕ, _+_, _/_, _%_, _≤_, _<_}
 use native.Mathlib.Omega.{arith}
 use mathlib.Core.List.{List, [], _∷_, _++_}
 use lib.ListN.{length, getD, take, drop, length-drop}
-use lib.Seq.{getD-take}
-use lib.Dec.{eqb, lit<, lit≤}
+use lib.Dec.{eqb, lit<}
 use borrow.Author.Tests.{eqb-true}
 use Rattle.laws.specs.Below.{and-left, and-right}
 use Rattle.laws.specs.Lists.{Bytes, bytes-none, bytes-cons, bytes-append, bytes-drop, take-run, take-one, four-of}
-use Rattle.laws.specs.Numbers.{number, numberBytes, number-bytes, bytes-number, number-take, bytes-of}
+use Rattle.laws.specs.Numbers.{number, numberBytes, number-bytes, bytes-number, bytes-of}
 use Rattle.stored.specs.declared.Header.{Header}
 use Rattle.stored.specs.declared.Vertex.{Vertex}
 use Rattle.stored.specs.declared.Record.{Record}
 use Rattle.stored.specs.declared.Selection.{Selection}
-use Rattle.stored.specs.Layout.{headerWidth, vertexWidth, recordWidth, byteAt, u16At, u32At, u16Bytes, u32Bytes, placeOf, storedOf, marked, markBytes, rightMark, headerOf, headerBytes, vertexFrom, vertexBytes, recordFrom, recordBytes}
-use Rattle.stored.specs.Fitting.{U16, U32, HeaderFits, VertexFits, RecordFits, u16-fits}
+use Rattle.stored.specs.Layout.{headerWidth, vertexWidth, recordWidth, orNone, storedOrNone, byteAt, u16At, u32At, u16Bytes, u32Bytes, placeOf, storedOf, marked, markBytes, rightMark, headerOf, headerBytes, vertexFrom, vertexBytes, recordFrom, recordBytes}
+use Rattle.stored.specs.Fitting.{U16, U32, OrNone, HeaderFits, VertexFits, RecordFits, stored-or-none, or-none-stored, stored-number-fits, u16-fits}
 use Rattle.stored.specs.Coordinate.{stored-place, place-stored, stored-fits}
 
 -- ---- lengths
@@ -63,7 +61,7 @@ pub vertex-is-bytes : (v : Vertex) → Bytes (vertexBytes v)
 unfolding vertexBytes
 vertex-is-bytes v =
     let placed = with2 (with2 (bytes-of 2 (storedOf (v .place .x))) (storedOf (v .place .y))) (storedOf (v .place .z)) in
-    with2 (with2 placed (v .p)) (v .q)
+    with2 (with2 placed (storedOrNone (v .p))) (storedOrNone (v .q))
 
 pub record-is-bytes : (r : Record) → RecordFits r → Bytes (recordBytes r)
 unfolding recordBytes
@@ -71,7 +69,7 @@ record-is-bytes r f =
     let c = r .piece .corners in
     let cornered = with2 (with2 (with2 (bytes-of 2 (getD c 0 0)) (getD c 1 0)) (getD c 2 0)) (getD c 3 0) in
     let marked = with1 (with1 (with1 (with1 (with1 cornered (f .edge)) (f .marks .byte 0)) (f .marks .byte 1)) (f .marks .byte 2)) (f .marks .byte 3) in
-    with2 (with1 (with1 marked (f .flag)) (f .generation)) (r .«first_child»)
+    with2 (with1 (with1 marked (f .flag)) (f .generation)) (storedOrNone (r .«first_child»))
 
 -- ---- what is written is read back, whatever follows it
 
@@ -85,6 +83,9 @@ u32-again n rest h = number-bytes 4 n rest h
 
 place-again : (place : ℕ) (rest : List ℕ) → U16 place → placeOf (number 2 (storedOf place % 256 ∷ storedOf place / 256 % 256 ∷ rest)) ≡ place
 place-again place rest h = ap placeOf (u16-again (storedOf place) rest (stored-fits place)) ∙ place-stored place h
+
+number-again : (n : ℕ) (rest : List ℕ) → OrNone n → orNone (number 2 (storedOrNone n % 256 ∷ storedOrNone n / 256 % 256 ∷ rest)) ≡ n
+number-again n rest h = ap orNone (u16-again (storedOrNone n) rest (stored-number-fits n h)) ∙ or-none-stored n h
 
 pub header-again : (h : Header) → HeaderFits h → (rest : List ℕ) → headerOf (headerBytes h ++ rest) ≡ h
 unfolding headerOf headerBytes markBytes numberBytes
@@ -115,8 +116,8 @@ vertex-again v f rest =
         y = place-again (v .place .y) (drop 4 bytes) (f .y) i;
         z = place-again (v .place .z) (drop 6 bytes) (f .z) i;
       };
-      p = u16-again (v .p) (drop 8 bytes) (f .p) i;
-      q = u16-again (v .q) (drop 10 bytes) (f .q) i;
+      p = number-again (v .p) (drop 8 bytes) (f .p) i;
+      q = number-again (v .q) (drop 10 bytes) (f .q) i;
     }
 
 pub record-again : (r : Record) → RecordFits r → (rest : List ℕ) → recordFrom (recordBytes r ++ rest) ≡ r
@@ -138,7 +139,7 @@ record-again r f rest =
         flag = r .piece .flag;
         generation = r .piece .generation;
       };
-      «first_child» = u16-again (r .«first_child») (drop 17 bytes) (f .firstChild) i;
+      «first_child» = number-again (r .«first_child») (drop 17 bytes) (f .firstChild) i;
     })
     ∙ (λ i.
     record {
@@ -151,47 +152,6 @@ record-again r f rest =
       };
       «first_child» = r .«first_child»;
     })
-
--- ---- an entry is told by its own bytes
-
-pub vertex-front : (s : List ℕ) → vertexFrom (take vertexWidth s) ≡ vertexFrom s
-unfolding vertexFrom
-vertex-front s =
-    λ i.
-    record {
-      place = record {
-        x = placeOf (number-take 2 0 10 s (lit≤ tt) i);
-        y = placeOf (number-take 2 2 10 s (lit≤ tt) i);
-        z = placeOf (number-take 2 4 10 s (lit≤ tt) i);
-      };
-      p = number-take 2 6 10 s (lit≤ tt) i;
-      q = number-take 2 8 10 s (lit≤ tt) i;
-    }
-
-pub record-front : (s : List ℕ) → recordFrom (take recordWidth s) ≡ recordFrom s
-unfolding recordFrom
-record-front s =
-    λ i.
-    record {
-      piece = record {
-        corners =
-            number-take 2 0 17 s (lit≤ tt) i
-            ∷ number-take 2 2 17 s (lit≤ tt) i
-            ∷ number-take 2 4 17 s (lit≤ tt) i
-            ∷ number-take 2 6 17 s (lit≤ tt) i
-            ∷ [];
-        edge = getD-take 17 s 8 0 (lit< tt) i;
-        marks =
-            getD-take 17 s 9 0 (lit< tt) i
-            ∷ getD-take 17 s 10 0 (lit< tt) i
-            ∷ getD-take 17 s 11 0 (lit< tt) i
-            ∷ getD-take 17 s 12 0 (lit< tt) i
-            ∷ [];
-        flag = getD-take 17 s 13 0 (lit< tt) i;
-        generation = getD-take 17 s 14 0 (lit< tt) i;
-      };
-      «first_child» = number-take 2 15 17 s (lit≤ tt) i;
-    }
 
 -- ---- what is read is written again
 
@@ -221,6 +181,9 @@ module _ (s : List ℕ) (b : Bytes s) where
   place-written-again : (at : ℕ) → at + 2 ≤ length s → u16Bytes (storedOf (placeOf (u16At s at))) ≡ take 2 (drop at s)
   place-written-again at h = ap u16Bytes (stored-place (u16At s at) (u16-fits s b at)) ∙ u16-written at h
 
+  number-written-again : (at : ℕ) → at + 2 ≤ length s → u16Bytes (storedOrNone (orNone (u16At s at))) ≡ take 2 (drop at s)
+  number-written-again at h = ap u16Bytes (stored-or-none (u16At s at) (u16-fits s b at)) ∙ u16-written at h
+
   pub vertex-written-again : vertexWidth ≤ length s → vertexBytes (vertexFrom s) ≡ take vertexWidth s
   unfolding vertexBytes vertexFrom
   vertex-written-again h =
@@ -228,8 +191,8 @@ module _ (s : List ℕ) (b : Bytes s) where
         place-written-again 0 (omega arith),
         place-written-again 2 (omega arith),
         place-written-again 4 (omega arith),
-        u16-written 6 (omega arith),
-        u16-written 8 (omega arith),
+        number-written-again 6 (omega arith),
+        number-written-again 8 (omega arith),
         take-run 2 2 0 s,
         take-run 4 2 0 s,
         take-run 6 2 0 s,
@@ -244,7 +207,7 @@ module _ (s : List ℕ) (b : Bytes s) where
         u16-written 2 (omega arith),
         u16-written 4 (omega arith),
         u16-written 6 (omega arith),
-        u16-written 15 (omega arith),
+        number-written-again 15 (omega arith),
         take-one 8 s 0 (omega arith),
         take-one 9 s 0 (omega arith),
         take-one 10 s 0 (omega arith),

@@ -1,18 +1,24 @@
 -- Values whose numbers fit their stored widths, and arrays that are as long as they are declared: what a reader gives, and what a
 -- writer keeps whole.
 use mathlib.Core.Path.{_≡_, refl, sym, subst}
-use Prim.Native.Nat.{ℕ, zero, suc, _+_, _*_, _<_}
+use mathlib.Core.Bool.{Bool, true, false, cond}
+use mathlib.Core.Logic.{_⊎_, inl, inr, ⊎-elim}
+use Prim.Native.Nat.{ℕ, zero, suc, _-_, _*_, _<_}
 use native.Mathlib.Omega.{arith}
 use mathlib.Core.List.{List, [], _∷_}
-use lib.ListN.{length, getD, drop}
-use Rattle.laws.specs.Below.{list-length, list-at}
-use Rattle.laws.specs.Lists.{Bytes, bytes-none, bytes-cons, bytes-drop}
+use lib.ListN.{length, getD, take, drop}
+use lib.Dec.{eqb, ltb}
+use borrow.Author.Tests.{eq-eqb, ne-eqb, eqb-true, eqb-false}
+use Rattle.laws.specs.Below.{either, list-length, list-at}
+use Rattle.laws.specs.Lists.{Bytes, bytes-none, bytes-cons, bytes-drop, bytes-take}
 use Rattle.laws.specs.Numbers.{number, number-below}
+use Rattle.stored.specs.declared.Table.{Table}
+use Rattle.stored.specs.declared.Layout.{Layout}
 use Rattle.stored.specs.declared.Header.{Header}
 use Rattle.stored.specs.declared.Vertex.{Vertex}
 use Rattle.stored.specs.declared.Record.{Record}
 use Rattle.stored.specs.declared.Selection.{Selection}
-use Rattle.stored.specs.Layout.{headerWidth, vertexWidth, recordWidth, u16At, allVertices, allRecords, headerOf, vertexFrom, vertexIn, recordFrom, recordIn, verticesOf, recordsOf, Mesh, meshOf}
+use Rattle.stored.specs.Layout.{none, storedNone, orNone, storedOrNone, u16At, allVertices, allRecords, headerOf, vertexFrom, recordFrom, heldIn, vertexIn, recordIn, layoutOf, Mesh, meshOf}
 
 -- A u16 and a u32, as the mesh stores them.
 abbrev pub U16 : ℕ → Type 0
@@ -20,6 +26,10 @@ U16 n = n < 65536
 
 abbrev pub U32 : ℕ → Type 0
 U32 n = n < 4294967296
+
+-- A parent or a first child: none, or a number that is stored as it is.
+abbrev pub OrNone : ℕ → Type 0
+OrNone n = (n ≡ none) ⊎ (n < storedNone)
 
 pub record HeaderFits (h : Header) : Type 0 where
   pub job : U32 (h .job)
@@ -33,8 +43,8 @@ pub record VertexFits (v : Vertex) : Type 0 where
   pub x : U16 (v .place .x)
   pub y : U16 (v .place .y)
   pub z : U16 (v .place .z)
-  pub p : U16 (v .p)
-  pub q : U16 (v .q)
+  pub p : OrNone (v .p)
+  pub q : OrNone (v .q)
 
 pub record RecordFits (r : Record) : Type 0 where
   pub fourCorners : length (r .piece .corners) ≡ 4
@@ -44,7 +54,7 @@ pub record RecordFits (r : Record) : Type 0 where
   pub marks : Bytes (r .piece .marks)
   pub flag : r .piece .flag < 256
   pub generation : r .piece .generation < 256
-  pub firstChild : U16 (r .«first_child»)
+  pub firstChild : OrNone (r .«first_child»)
 
 -- A mesh's tables are as long as its header says.
 pub record MeshFits (m : Mesh) : Type 0 where
@@ -61,6 +71,34 @@ pub record SelectionFits (h : Selection) (numbers : List ℕ) : Type 0 where
   pub count : length numbers ≡ h .count
   pub few : U16 (h .count)
   pub named : (k : ℕ) → k < length numbers → U16 (getD numbers k 0)
+
+-- ---- none, stored and read: each undoes the other
+
+pub or-none-fits : (n : ℕ) → U16 n → OrNone (orNone n)
+unfolding orNone
+or-none-fits n h =
+    ⊎-elim
+    (λ t. inl (rw t))
+    (λ f. let other : n < storedNone = omega (arith, eqb-false n storedNone f) in inr (rw f other))
+    (either (eqb n storedNone))
+
+pub stored-or-none : (n : ℕ) → U16 n → storedOrNone (orNone n) ≡ n
+unfolding orNone storedOrNone
+stored-or-none n h =
+    ⊎-elim
+    (λ t. rw t (sym (eqb-true n storedNone t)))
+    (λ f. rw (f, ne-eqb n none (λ e. omega arith)))
+    (either (eqb n storedNone))
+
+pub or-none-stored : (n : ℕ) → OrNone n → orNone (storedOrNone n) ≡ n
+unfolding orNone storedOrNone
+or-none-stored n (inl e) = rw (eq-eqb n none e) (sym e)
+or-none-stored n (inr l) = rw (ne-eqb n none (λ e. omega arith), ne-eqb n storedNone (λ e. omega arith))
+
+pub stored-number-fits : (n : ℕ) → OrNone n → U16 (storedOrNone n)
+unfolding storedOrNone
+stored-number-fits n (inl e) = rw (eq-eqb n none e) (omega arith)
+stored-number-fits n (inr l) = rw (ne-eqb n none (λ e. omega arith)) (omega arith)
 
 -- ---- what is read from bytes fits
 
@@ -85,7 +123,7 @@ module _ (s : List ℕ) (b : Bytes s) where
 
   pub vertex-from-fits : VertexFits (vertexFrom s)
   unfolding vertexFrom
-  vertex-from-fits = record { x = omega arith; y = omega arith; z = omega arith; p = u16-fits 6; q = u16-fits 8 }
+  vertex-from-fits = record { x = omega arith; y = omega arith; z = omega arith; p = or-none-fits (u16At s 6) (u16-fits 6); q = or-none-fits (u16At s 8) (u16-fits 8) }
 
   pub record-from-fits : RecordFits (recordFrom s)
   unfolding recordFrom
@@ -98,7 +136,7 @@ module _ (s : List ℕ) (b : Bytes s) where
         marks = bytes-cons (b .byte 9) (bytes-cons (b .byte 10) (bytes-cons (b .byte 11) (bytes-cons (b .byte 12) bytes-none)));
         flag = b .byte 13;
         generation = b .byte 14;
-        firstChild = u16-fits 15;
+        firstChild = or-none-fits (u16At s 15) (u16-fits 15);
       }
     where
       corner : (k : ℕ) → U16 (getD (u16At s 0 ∷ u16At s 2 ∷ u16At s 4 ∷ u16At s 6 ∷ []) k 0)
@@ -108,23 +146,34 @@ module _ (s : List ℕ) (b : Bytes s) where
       corner (suc (suc (suc zero))) = u16-fits 6
       corner (suc (suc (suc (suc k)))) = omega arith
 
-pub vertex-fits : (t : List ℕ) → Bytes t → (i : ℕ) → VertexFits (vertexIn t i)
-unfolding vertexIn
-vertex-fits t b i = vertex-from-fits (drop (vertexWidth * i) t) (bytes-drop (vertexWidth * i) t b)
+pub held-is-bytes : (w : ℕ) (t : Table) (base grown : List ℕ) (i : ℕ) → Bytes base → Bytes grown → Bytes (heldIn w t base grown i)
+unfolding heldIn
+held-is-bytes w t base grown i b g = go (ltb i (t .end)) (ltb i (t .count))
+  where
+    go : (e c : Bool) → Bytes (cond e (cond c (take w (drop (w * i) (drop (t .base) base))) (take w (drop (w * (i - t .count)) (drop (t .grown) grown)))) [])
+    go false c = bytes-none
+    go true true = bytes-take w (drop (w * i) (drop (t .base) base)) (bytes-drop (w * i) (drop (t .base) base) (bytes-drop (t .base) base b))
+    go true false = bytes-take w (drop (w * (i - t .count)) (drop (t .grown) grown)) (bytes-drop (w * (i - t .count)) (drop (t .grown) grown) (bytes-drop (t .grown) grown g))
 
-pub record-fits : (t : List ℕ) → Bytes t → (i : ℕ) → RecordFits (recordIn t i)
-unfolding recordIn
-record-fits t b i = record-from-fits (drop (recordWidth * i) t) (bytes-drop (recordWidth * i) t b)
+module _ (l : Layout) (base grown : List ℕ) (b : Bytes base) (g : Bytes grown) (i : ℕ) where
+  pub vertex-fits : VertexFits (vertexIn l base grown i)
+  unfolding vertexIn
+  vertex-fits = vertex-from-fits (heldIn (l .format .«vertex_width») (l .vertices) base grown i) (held-is-bytes (l .format .«vertex_width») (l .vertices) base grown i b g)
+
+  pub record-fits : RecordFits (recordIn l base grown i)
+  unfolding recordIn
+  record-fits = record-from-fits (heldIn (l .format .«record_width») (l .records) base grown i) (held-is-bytes (l .format .«record_width») (l .records) base grown i b g)
 
 pub mesh-fits : (s : List ℕ) → Bytes s → MeshFits (meshOf s)
-unfolding meshOf headerOf verticesOf recordsOf
+unfolding meshOf headerOf
 mesh-fits s b =
+    let l : Layout = layoutOf (headerOf s) in
     record {
       header = header-fits s b;
-      vertexCount = list-length (vertexIn (verticesOf s)) (allVertices s);
-      vertices = λ k d l. subst VertexFits (sym (list-at (vertexIn (verticesOf s)) (allVertices s) k d (below (list-length (vertexIn (verticesOf s)) (allVertices s)) l))) (vertex-fits (verticesOf s) (bytes-drop headerWidth s b) k);
-      recordCount = list-length (recordIn (recordsOf s)) (allRecords s);
-      records = λ k d l. subst RecordFits (sym (list-at (recordIn (recordsOf s)) (allRecords s) k d (below (list-length (recordIn (recordsOf s)) (allRecords s)) l))) (record-fits (recordsOf s) (bytes-drop (headerWidth + vertexWidth * allVertices s) s b) k);
+      vertexCount = list-length (vertexIn l s s) (allVertices s);
+      vertices = λ k d lt. subst VertexFits (sym (list-at (vertexIn l s s) (allVertices s) k d (below (list-length (vertexIn l s s) (allVertices s)) lt))) (vertex-fits l s s b b k);
+      recordCount = list-length (recordIn l s s) (allRecords s);
+      records = λ k d lt. subst RecordFits (sym (list-at (recordIn l s s) (allRecords s) k d (below (list-length (recordIn l s s) (allRecords s)) lt))) (record-fits l s s b b k);
     }
   where
     below : {k n m : ℕ} → n ≡ m → k < n → k < m

@@ -1,14 +1,18 @@
 -- "Stored mesh, version 1" and "Selection" of document 01, sentence by sentence: what each byte says, and the bytes that say it.
 -- Past the end every byte reads as 0, so that nothing here is left undefined.
-use mathlib.Core.Bool.{Bool, _&&_}
-use Prim.Native.Nat.{ℕ, _+_, _*_, _%_}
+use mathlib.Core.Bool.{Bool, cond, _&&_}
+use Prim.Native.Nat.{ℕ, _+_, _-_, _*_, _%_}
 use mathlib.Core.List.{List, [], _∷_, _++_}
-use lib.ListN.{length, getD, drop}
+use lib.ListN.{length, getD, take, drop}
 use lib.Seq.{sets}
-use lib.Dec.{leb, eqb}
+use lib.Dec.{leb, ltb, eqb}
 use Rattle.laws.specs.Below.{listBelow}
 use Rattle.laws.specs.Lists.{joined}
 use Rattle.laws.specs.Numbers.{number, numberBytes}
+use Rattle.stored.specs.declared.Limits.{Limits}
+use Rattle.stored.specs.declared.Format.{Format}
+use Rattle.stored.specs.declared.Table.{Table}
+use Rattle.stored.specs.declared.Layout.{Layout}
 use Rattle.stored.specs.declared.Header.{Header}
 use Rattle.stored.specs.declared.Vertex.{Vertex}
 use Rattle.stored.specs.declared.Parents.{Parents}
@@ -40,9 +44,19 @@ placeOf n = (n + 32768) % 65536
 abbrev pub storedOf : ℕ → ℕ
 storedOf place = (place + 32768) % 65536
 
--- "65,535 for both parents", "65,535 if uncut"
+-- In memory, for no parent and for no child.
 abbrev pub none : ℕ
-none = 65535
+none = 4294967295
+
+-- "65,535 for both parents", "65,535 if uncut": how none is stored. Any other number is stored as it is.
+abbrev pub storedNone : ℕ
+storedNone = 65535
+
+unfoldable pub orNone : ℕ → ℕ
+orNone n = cond (eqb n storedNone) none n
+
+unfoldable pub storedOrNone : ℕ → ℕ
+storedOrNone n = cond (eqb n none) storedNone n
 
 -- "Header, 20 bytes", "Vertex, 10 bytes", "Record, 17 bytes"
 abbrev pub headerWidth : ℕ
@@ -53,6 +67,13 @@ vertexWidth = 10
 
 abbrev pub recordWidth : ℕ
 recordWidth = 17
+
+abbrev pub version1 : Format
+version1 = record { «vertex_width» = vertexWidth; «record_width» = recordWidth }
+
+-- "At most 1,024 vertices and 3,072 records"
+abbrev pub limits : Limits
+limits = record { vertices = 1024; records = 3072 }
 
 -- ---- "Header, 20 bytes: `TMB` at 0; version 1 (u16) at 3; job (u32) at 5; round (u16) at 9; base vertices (u16) at 11; all vertices
 -- at 13; base records at 15; all records at 17; a zero byte at 19."
@@ -112,8 +133,8 @@ unfoldable pub vertexFrom : List ℕ → Vertex
 vertexFrom s =
     record {
       place = record { x = placeOf (u16At s 0); y = placeOf (u16At s 2); z = placeOf (u16At s 4) };
-      p = u16At s 6;
-      q = u16At s 8;
+      p = orNone (u16At s 6);
+      q = orNone (u16At s 8);
     }
 
 unfoldable pub vertexBytes : Vertex → List ℕ
@@ -121,15 +142,8 @@ vertexBytes v =
     u16Bytes (storedOf (v .place .x))
     ++ u16Bytes (storedOf (v .place .y))
     ++ u16Bytes (storedOf (v .place .z))
-    ++ u16Bytes (v .p)
-    ++ u16Bytes (v .q)
-
--- A table of vertices: vertex i, and the table with vertex i written (what would lie past the end is not written).
-unfoldable pub vertexIn : List ℕ → ℕ → Vertex
-vertexIn table i = vertexFrom (drop (vertexWidth * i) table)
-
-unfoldable pub vertexInto : List ℕ → ℕ → Vertex → List ℕ
-vertexInto table i v = sets table (vertexWidth * i) (vertexBytes v)
+    ++ u16Bytes (storedOrNone (v .p))
+    ++ u16Bytes (storedOrNone (v .q))
 
 -- A vertex's parents.
 abbrev pub parentsOf : Vertex → Parents
@@ -149,7 +163,7 @@ recordFrom s =
         flag = byteAt s 13;
         generation = byteAt s 14;
       };
-      «first_child» = u16At s 15;
+      «first_child» = orNone (u16At s 15);
     }
 
 unfoldable pub recordBytes : Record → List ℕ
@@ -165,33 +179,61 @@ recordBytes r =
     ++ getD (r .piece .marks) 3 0 ∷ []
     ++ r .piece .flag ∷ []
     ++ r .piece .generation ∷ []
-    ++ u16Bytes (r .«first_child»)
+    ++ u16Bytes (storedOrNone (r .«first_child»))
 
--- A table of records, as for vertices.
-unfoldable pub recordIn : List ℕ → ℕ → Record
-recordIn table i = recordFrom (drop (recordWidth * i) table)
+-- ---- tables in two slices
 
-unfoldable pub recordInto : List ℕ → ℕ → Record → List ℕ
-recordInto table i r = sets table (recordWidth * i) (recordBytes r)
+-- The bytes of entry i of a table whose entries have one width: in the base slice for the first `count`, in the growth slice for the
+-- others; past the end there are none.
+unfoldable pub heldIn : ℕ → Table → List ℕ → List ℕ → ℕ → List ℕ
+heldIn width t base grown i =
+    let inBase = take width (drop (width * i) (drop (t .base) base)) in
+    let inGrowth = take width (drop (width * (i - t .count)) (drop (t .grown) grown)) in
+    let there = cond (ltb i (t .count)) inBase inGrowth in
+    cond (ltb i (t .end)) there []
+
+-- The base slice and the growth slice with an entry's bytes written.
+unfoldable pub baseInto : ℕ → Table → List ℕ → ℕ → List ℕ → List ℕ
+baseInto width t base i bytes =
+    let written = sets base (t .base + width * i) bytes in
+    cond (ltb i (t .end) && ltb i (t .count)) written base
+
+unfoldable pub grownInto : ℕ → Table → List ℕ → ℕ → List ℕ → List ℕ
+grownInto width t grown i bytes =
+    let written = sets grown (t .grown + width * (i - t .count)) bytes in
+    cond (ltb i (t .end) && leb (t .count) i) written grown
+
+-- Vertex i and record i of a mesh.
+unfoldable pub vertexIn : Layout → List ℕ → List ℕ → ℕ → Vertex
+vertexIn l base grown i = vertexFrom (heldIn (l .format .«vertex_width») (l .vertices) base grown i)
+
+unfoldable pub recordIn : Layout → List ℕ → List ℕ → ℕ → Record
+recordIn l base grown i = recordFrom (heldIn (l .format .«record_width») (l .records) base grown i)
 
 -- ---- the whole mesh
 
--- A stored mesh's tables: all vertices stand after the header, and all records after them.
-unfoldable pub verticesOf : List ℕ → List ℕ
-verticesOf s = drop headerWidth s
+-- A stored mesh in one slice: all vertices stand after the header, and all records after them.
+abbrev pub layoutOf : Header → Layout
+layoutOf h =
+    record {
+      format = version1;
+      vertices = record { count = h .vertices; end = h .vertices; base = headerWidth; grown = 0 };
+      records = record { count = h .records; end = h .records; base = headerWidth + vertexWidth * h .vertices; grown = 0 };
+    }
 
-unfoldable pub recordsOf : List ℕ → List ℕ
-recordsOf s = drop (headerWidth + vertexWidth * allVertices s) s
+-- Tables to work on: so many vertices, alone in the base slice, and so many records, alone in the growth slice.
+abbrev pub working : ℕ → ℕ → Layout
+working vertices records =
+    record {
+      format = version1;
+      vertices = record { count = vertices; end = vertices; base = 0; grown = 0 };
+      records = record { count = 0; end = records; base = vertexWidth * vertices; grown = 0 };
+    }
 
-unfoldable pub headerInto : List ℕ → Header → List ℕ
-headerInto s h = sets s 0 (headerBytes h)
-
--- A mesh with vertex i written, and with record i written where all vertices are as many as is said.
-unfoldable pub meshVertexInto : List ℕ → ℕ → Vertex → List ℕ
-meshVertexInto s i v = sets s (meshLength i 0) (vertexBytes v)
-
-unfoldable pub meshRecordInto : List ℕ → ℕ → ℕ → Record → List ℕ
-meshRecordInto s vertices i r = sets s (meshLength vertices i) (recordBytes r)
+-- The mesh with this header and the first of these vertices' and records' bytes.
+unfoldable pub assembled : Header → List ℕ → List ℕ → List ℕ
+assembled h vertices records =
+    headerBytes h ++ take (vertexWidth * h .vertices) vertices ++ take (recordWidth * h .records) records
 
 -- A mesh as numbers, in which no byte is left.
 pub record Mesh : Type 0 where
@@ -203,8 +245,8 @@ unfoldable pub meshOf : List ℕ → Mesh
 meshOf s =
     record {
       header = headerOf s;
-      vertices = listBelow (allVertices s) (vertexIn (verticesOf s));
-      records = listBelow (allRecords s) (recordIn (recordsOf s));
+      vertices = listBelow (allVertices s) (vertexIn (layoutOf (headerOf s)) s s);
+      records = listBelow (allRecords s) (recordIn (layoutOf (headerOf s)) s s);
     }
 
 unfoldable pub meshBytes : Mesh → List ℕ

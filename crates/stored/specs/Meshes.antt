@@ -2,19 +2,24 @@
 -- and 2 let pass.
 use mathlib.Core.Path.{_≡_, sym, ap, ap₂, _∙_}
 use mathlib.Core.Bool.{Bool, true}
-use Prim.Native.Nat.{ℕ, _+_, _*_, _≤_, _<_}
+use mathlib.Core.Logic.{⊎-elim}
+use Prim.Native.Nat.{ℕ, _+_, _-_, _*_, _≤_, _<_}
+use native.Mathlib.Nat.{mul-suc, mul-le-mul-left}
 use native.Mathlib.Omega.{arith}
 use mathlib.Core.List.{List, [], _++_, append-assoc, append-nil}
 use lib.ListN.{length, getD, take, drop, length-append, length-drop}
-use lib.Seq.{drop-at, take-add, take-all}
-use lib.Dec.{leb, eqb}
-use borrow.Author.Tests.{le-leb, eq-eqb, leb-true, eqb-true}
-use Rattle.laws.specs.Below.{listBelow, list-of, and-left, and-right}
-use Rattle.laws.specs.Lists.{Bytes, bytes-append, bytes-drop, bytes-joined, joined, joined-length, joined-at, joined-below}
+use lib.Seq.{sets, take-at, drop-at, take-add, take-all, take-take, take-append-le, length-take-le}
+use lib.Dec.{leb, ltb, eqb}
+use borrow.Author.Tests.{le-leb, eq-eqb, leb-true, eqb-true, ltb-true, ltb-false}
+use Rattle.laws.specs.Below.{either, listBelow, list-of, and-left, and-right}
+use Rattle.laws.specs.Lists.{drop-take, sets-append, Bytes, bytes-append, bytes-take, bytes-drop, bytes-joined, joined, joined-length, joined-at, joined-below}
+use Rattle.stored.specs.declared.Layout.{Layout}
+use Rattle.stored.specs.declared.Header.{Header}
 use Rattle.stored.specs.declared.Vertex.{Vertex}
 use Rattle.stored.specs.declared.Record.{Record}
-use Rattle.stored.specs.Layout.{headerWidth, vertexWidth, recordWidth, allVertices, allRecords, rightMark, rightLength, meshLength, headerOf, headerBytes, vertexFrom, vertexBytes, vertexIn, recordFrom, recordBytes, recordIn, verticesOf, recordsOf, Mesh, meshOf, meshBytes}
-use Rattle.stored.specs.Fitting.{MeshFits}
+use Rattle.stored.specs.Layout.{headerWidth, vertexWidth, recordWidth, allVertices, allRecords, rightMark, rightLength, meshLength, headerOf, headerBytes, vertexFrom, vertexBytes, recordFrom, recordBytes, heldIn, vertexIn, recordIn, layoutOf, working, assembled, Mesh, meshOf, meshBytes}
+use Rattle.stored.specs.Held.{held-base, held-growth, held-none}
+use Rattle.stored.specs.Fitting.{HeaderFits, MeshFits}
 use Rattle.stored.specs.Entries.{header-is-bytes, vertex-is-bytes, record-is-bytes, header-wide, header-again, header-right, header-written-again, vertex-wide, vertex-again, vertex-written-again, record-wide, record-again, record-written-again}
 
 -- ---- from a mesh to its bytes and back
@@ -75,31 +80,51 @@ module _ (m : Mesh) (f : MeshFits m) where
       mesh-long ∙ sym (ap₂ meshLength vertex-count record-count) in
       rw (le-leb headerWidth (length (meshBytes m)) (omega (arith, mesh-long)), eq-eqb (length (meshBytes m)) (meshLength (allVertices (meshBytes m)) (allRecords (meshBytes m))) long)
 
-  pub mesh-vertices : verticesOf (meshBytes m) ≡ joined vertexBytes (m .vertices) ++ joined recordBytes (m .records)
-  unfolding verticesOf
+  abbrev theLayout : Layout
+  theLayout = layoutOf (headerOf (meshBytes m))
+
+  mesh-vertices : drop headerWidth (meshBytes m) ≡ joined vertexBytes (m .vertices) ++ joined recordBytes (m .records)
   mesh-vertices =
       ap (drop headerWidth) from-header
       ∙ drop-at (headerBytes (m .header)) (joined vertexBytes (m .vertices) ++ joined recordBytes (m .records)) headerWidth (header-wide (m .header))
 
-  pub mesh-records : recordsOf (meshBytes m) ≡ joined recordBytes (m .records)
-  unfolding recordsOf meshBytes
+  mesh-records : drop (headerWidth + vertexWidth * headerOf (meshBytes m) .vertices) (meshBytes m) ≡ joined recordBytes (m .records)
+  unfolding meshBytes headerOf
   mesh-records =
       ap (λ (n : ℕ). drop (headerWidth + vertexWidth * n) (meshBytes m)) vertex-count
       ∙ drop-at (headerBytes (m .header) ++ joined vertexBytes (m .vertices)) (joined recordBytes (m .records)) (headerWidth + vertexWidth * length (m .vertices)) front-long
 
-  pub mesh-vertex : (k : ℕ) (d : Vertex) → k < length (m .vertices) → vertexIn (verticesOf (meshBytes m)) k ≡ getD (m .vertices) k d
+  pub mesh-vertex : (k : ℕ) (d : Vertex) → k < length (m .vertices) → vertexIn theLayout (meshBytes m) (meshBytes m) k ≡ getD (m .vertices) k d
   unfolding vertexIn
   mesh-vertex k d l =
-      ap (λ (t : List ℕ). vertexFrom (drop (vertexWidth * k) t)) mesh-vertices
-      ∙ ap vertexFrom (joined-at vertexBytes vertexWidth vertex-wide (m .vertices) (joined recordBytes (m .records)) k d l)
-      ∙ vertex-again (getD (m .vertices) k d) (f .vertices k d l) _
+      let s = meshBytes m in
+      let x = getD (m .vertices) k d in
+      let counted : headerOf s .vertices ≡ m .header .vertices = λ i. mesh-header i .vertices in
+      let there : k < headerOf s .vertices = omega (arith, f .vertexCount) in
+      ap vertexFrom (
+      held-base vertexWidth (theLayout .vertices) s s k there there
+      ∙ ap (λ (t : List ℕ). take vertexWidth (drop (vertexWidth * k) t)) mesh-vertices
+      ∙ ap (take vertexWidth) (joined-at vertexBytes vertexWidth vertex-wide (m .vertices) (joined recordBytes (m .records)) k d l)
+      ∙ take-at (vertexBytes x) _ vertexWidth (vertex-wide x)
+      ∙ sym (append-nil (vertexBytes x))
+      )
+      ∙ vertex-again x (f .vertices k d l) []
 
-  pub mesh-record : (k : ℕ) (d : Record) → k < length (m .records) → recordIn (recordsOf (meshBytes m)) k ≡ getD (m .records) k d
+  pub mesh-record : (k : ℕ) (d : Record) → k < length (m .records) → recordIn theLayout (meshBytes m) (meshBytes m) k ≡ getD (m .records) k d
   unfolding recordIn
   mesh-record k d l =
-      ap (λ (t : List ℕ). recordFrom (drop (recordWidth * k) t)) (mesh-records ∙ sym (append-nil (joined recordBytes (m .records))))
-      ∙ ap recordFrom (joined-at recordBytes recordWidth record-wide (m .records) [] k d l)
-      ∙ record-again (getD (m .records) k d) (f .records k d l) _
+      let s = meshBytes m in
+      let x = getD (m .records) k d in
+      let counted : headerOf s .records ≡ m .header .records = λ i. mesh-header i .records in
+      let there : k < headerOf s .records = omega (arith, f .recordCount) in
+      ap recordFrom (
+      held-base recordWidth (theLayout .records) s s k there there
+      ∙ ap (λ (t : List ℕ). take recordWidth (drop (recordWidth * k) t)) (mesh-records ∙ sym (append-nil (joined recordBytes (m .records))))
+      ∙ ap (take recordWidth) (joined-at recordBytes recordWidth record-wide (m .records) [] k d l)
+      ∙ take-at (recordBytes x) _ recordWidth (record-wide x)
+      ∙ sym (append-nil (recordBytes x))
+      )
+      ∙ record-again x (f .records k d l) []
 
   pub mesh-again : meshOf (meshBytes m) ≡ m
   unfolding meshOf
@@ -107,12 +132,12 @@ module _ (m : Mesh) (f : MeshFits m) where
       let s : List ℕ = meshBytes m in
       let v : Vertex = vertexFrom [] in
       let r : Record = recordFrom [] in
-      let vertices : listBelow (allVertices s) (vertexIn (verticesOf s)) ≡ m .vertices =
-      ap (λ (n : ℕ). listBelow n (vertexIn (verticesOf s))) vertex-count
-      ∙ list-of (vertexIn (verticesOf s)) v (m .vertices) (λ k l. sym (mesh-vertex k v l)) in
-      let records : listBelow (allRecords s) (recordIn (recordsOf s)) ≡ m .records =
-      ap (λ (n : ℕ). listBelow n (recordIn (recordsOf s))) record-count
-      ∙ list-of (recordIn (recordsOf s)) r (m .records) (λ k l. sym (mesh-record k r l)) in
+      let vertices : listBelow (allVertices s) (vertexIn theLayout s s) ≡ m .vertices =
+      ap (λ (n : ℕ). listBelow n (vertexIn theLayout s s)) vertex-count
+      ∙ list-of (vertexIn theLayout s s) v (m .vertices) (λ k l. sym (mesh-vertex k v l)) in
+      let records : listBelow (allRecords s) (recordIn theLayout s s) ≡ m .records =
+      ap (λ (n : ℕ). listBelow n (recordIn theLayout s s)) record-count
+      ∙ list-of (recordIn theLayout s s) r (m .records) (λ k l. sym (mesh-record k r l)) in
       λ i. record { header = mesh-header i; vertices = vertices i; records = records i }
 
 -- ---- from bytes to their mesh and back
@@ -127,30 +152,122 @@ length-says s right =
 
 -- entry i of either table, where it lies within the bytes
 module _ (s : List ℕ) (b : Bytes s) (from i : ℕ) where
-  vertex-at : from + vertexWidth * i + vertexWidth ≤ length s → vertexBytes (vertexIn (drop from s) i) ≡ take vertexWidth (drop (vertexWidth * i) (drop from s))
-  unfolding vertexIn
+  vertex-at : from + vertexWidth * i + vertexWidth ≤ length s → vertexBytes (vertexFrom (take vertexWidth (drop (vertexWidth * i) (drop from s)))) ≡ take vertexWidth (drop (vertexWidth * i) (drop from s))
   vertex-at l =
-      vertex-written-again (drop (vertexWidth * i) (drop from s)) (bytes-drop (vertexWidth * i) (drop from s) (bytes-drop from s b))
-      (rw (length-drop (vertexWidth * i) (drop from s), length-drop from s) (omega arith))
+      let t : List ℕ = drop (vertexWidth * i) (drop from s) in
+      let long : vertexWidth ≤ length t = rw (length-drop (vertexWidth * i) (drop from s), length-drop from s) (omega arith) in
+      let taken : length (take vertexWidth t) ≡ vertexWidth = length-take-le vertexWidth t long in
+      vertex-written-again (take vertexWidth t) (bytes-take vertexWidth t (bytes-drop (vertexWidth * i) (drop from s) (bytes-drop from s b))) (omega arith)
+      ∙ take-all vertexWidth (take vertexWidth t) (omega arith)
 
-  record-at : from + recordWidth * i + recordWidth ≤ length s → recordBytes (recordIn (drop from s) i) ≡ take recordWidth (drop (recordWidth * i) (drop from s))
-  unfolding recordIn
+  record-at : from + recordWidth * i + recordWidth ≤ length s → recordBytes (recordFrom (take recordWidth (drop (recordWidth * i) (drop from s)))) ≡ take recordWidth (drop (recordWidth * i) (drop from s))
   record-at l =
-      record-written-again (drop (recordWidth * i) (drop from s)) (bytes-drop (recordWidth * i) (drop from s) (bytes-drop from s b))
-      (rw (length-drop (recordWidth * i) (drop from s), length-drop from s) (omega arith))
+      let t : List ℕ = drop (recordWidth * i) (drop from s) in
+      let long : recordWidth ≤ length t = rw (length-drop (recordWidth * i) (drop from s), length-drop from s) (omega arith) in
+      let taken : length (take recordWidth t) ≡ recordWidth = length-take-le recordWidth t long in
+      record-written-again (take recordWidth t) (bytes-take recordWidth t (bytes-drop (recordWidth * i) (drop from s) (bytes-drop from s b))) (omega arith)
+      ∙ take-all recordWidth (take recordWidth t) (omega arith)
 
 pub mesh-written-again : (s : List ℕ) → Bytes s → rightLength s ≡ true → rightMark s ≡ true → meshBytes (meshOf s) ≡ s
-unfolding meshBytes meshOf verticesOf recordsOf
+unfolding meshBytes meshOf vertexIn recordIn headerOf
 mesh-written-again s b right marked =
     let (least, long) = length-says s right in
     let n : ℕ = allVertices s in
     let k : ℕ = allRecords s in
+    let l : Layout = layoutOf (headerOf s) in
     let from : ℕ = headerWidth + vertexWidth * n in
     let header : headerBytes (headerOf s) ≡ take headerWidth s = header-written-again s b least marked in
-    let vertices : joined vertexBytes (listBelow n (vertexIn (verticesOf s))) ≡ take (vertexWidth * n) (drop headerWidth s) =
-    joined-below vertexBytes vertexWidth n (vertexIn (verticesOf s)) (drop headerWidth s) (λ i l. vertex-at s b headerWidth i (omega arith)) in
-    let records : joined recordBytes (listBelow k (recordIn (recordsOf s))) ≡ take (recordWidth * k) (drop from s) =
-    joined-below recordBytes recordWidth k (recordIn (recordsOf s)) (drop from s) (λ i l. record-at s b from i (omega arith)) in
+    let vertices : joined vertexBytes (listBelow n (vertexIn l s s)) ≡ take (vertexWidth * n) (drop headerWidth s) =
+    joined-below vertexBytes vertexWidth n (vertexIn l s s) (drop headerWidth s)
+    (λ i lt. ap (λ (t : List ℕ). vertexBytes (vertexFrom t)) (held-base vertexWidth (l .vertices) s s i lt lt) ∙ vertex-at s b headerWidth i (omega arith)) in
+    let records : joined recordBytes (listBelow k (recordIn l s s)) ≡ take (recordWidth * k) (drop from s) =
+    joined-below recordBytes recordWidth k (recordIn l s s) (drop from s)
+    (λ i lt. ap (λ (t : List ℕ). recordBytes (recordFrom t)) (held-base recordWidth (l .records) s s i lt lt) ∙ record-at s b from i (omega arith)) in
     ap₂ _++_ (ap₂ _++_ header vertices ∙ sym (take-add headerWidth (vertexWidth * n) s)) records
     ∙ sym (take-add from (recordWidth * k) s)
     ∙ take-all (from + recordWidth * k) s (omega arith)
+
+-- ---- from tables that were worked on to the mesh that is assembled from them
+
+-- The header is written, then the vertices, then the records.
+pub assembled-put : (out : List ℕ) (h : Header) (vertices records : List ℕ) →
+    sets (sets (sets out 0 (headerBytes h)) (headerWidth + 0) (take (vertexWidth * h .vertices) vertices)) (headerWidth + length (take (vertexWidth * h .vertices) vertices)) (take (recordWidth * h .records) records)
+    ≡ sets out 0 (assembled h vertices records)
+unfolding assembled
+assembled-put out h vertices records =
+    let header : List ℕ = headerBytes h in
+    let first : List ℕ = take (vertexWidth * h .vertices) vertices in
+    let then : List ℕ = take (recordWidth * h .records) records in
+    let wide : length header ≡ headerWidth = header-wide h in
+    let after : headerWidth + 0 ≡ 0 + length header = omega arith in
+    let past : headerWidth + length first ≡ 0 + length (header ++ first) = omega (arith, length-append header first) in
+    ap (λ (k : ℕ). sets (sets (sets out 0 header) k first) (headerWidth + length first) then) after
+    ∙ ap₂ (λ (t : List ℕ) (k : ℕ). sets t k then) (sym (sets-append out 0 header first)) past
+    ∙ sym (sets-append out 0 (header ++ first) then)
+
+-- An entry that lies within the front of t stands there too, whatever follows the front.
+front-entry : (w i n : ℕ) (t rest : List ℕ) → i < n → w * n ≤ length t → take w (drop (w * i) (take (w * n) t ++ rest)) ≡ take w (drop (w * i) t)
+front-entry w i n t rest l within =
+    let next : w * i + w ≤ w * n = rw (← mul-suc w i) (mul-le-mul-left w l) in
+    let long : length (take (w * n) t) ≡ w * n = length-take-le (w * n) t within in
+    sym (drop-take (w * i) w (take (w * n) t ++ rest))
+    ∙ ap (drop (w * i)) (take-append-le (w * i + w) (take (w * n) t) rest (omega arith) ∙ take-take (w * i + w) (w * n) t next)
+    ∙ drop-take (w * i) w t
+
+module _ (h : Header) (f : HeaderFits h) (vertices records : List ℕ) (long : vertexWidth * h .vertices ≤ length vertices) (deep : recordWidth * h .records ≤ length records) where
+  abbrev whole : List ℕ
+  whole = assembled h vertices records
+
+  abbrev vertexPart : List ℕ
+  vertexPart = take (vertexWidth * h .vertices) vertices
+
+  abbrev recordPart : List ℕ
+  recordPart = take (recordWidth * h .records) records
+
+  pub assembled-header : headerOf (assembled h vertices records) ≡ h
+  unfolding assembled
+  assembled-header = ap headerOf (append-assoc (headerBytes h) vertexPart recordPart) ∙ header-again h f (vertexPart ++ recordPart)
+
+  front-wide : length (headerBytes h ++ vertexPart) ≡ headerWidth + vertexWidth * h .vertices
+  front-wide = length-append (headerBytes h) vertexPart ∙ ap₂ _+_ (header-wide h) (length-take-le (vertexWidth * h .vertices) vertices long)
+
+  pub assembled-length : length (assembled h vertices records) ≡ meshLength (h .vertices) (h .records)
+  unfolding assembled
+  assembled-length = length-append (headerBytes h ++ vertexPart) recordPart ∙ ap₂ _+_ front-wide (length-take-le (recordWidth * h .records) records deep)
+
+  pub assembled-vertices : vertexIn (working (h .vertices) (h .records)) vertices records ≡ vertexIn (layoutOf h) (assembled h vertices records) (assembled h vertices records)
+  unfolding vertexIn assembled
+  assembled-vertices = λ k i. vertexFrom (same i k)
+    where
+      same : (i : ℕ) → heldIn vertexWidth (working (h .vertices) (h .records) .vertices) vertices records i ≡ heldIn vertexWidth (layoutOf h .vertices) whole whole i
+      same i =
+          ⊎-elim
+          (λ t. let l = ltb-true i (h .vertices) t in
+          held-base vertexWidth (working (h .vertices) (h .records) .vertices) vertices records i l l
+          ∙ sym (front-entry vertexWidth i (h .vertices) vertices recordPart l long)
+          ∙ ap (λ (r : List ℕ). take vertexWidth (drop (vertexWidth * i) r)) (sym (ap (drop headerWidth) (append-assoc (headerBytes h) vertexPart recordPart) ∙ drop-at (headerBytes h) (vertexPart ++ recordPart) headerWidth (header-wide h)))
+          ∙ sym (held-base vertexWidth (layoutOf h .vertices) whole whole i l l))
+          (λ g. let e = ltb-false i (h .vertices) g in
+          held-none vertexWidth (working (h .vertices) (h .records) .vertices) vertices records i e
+          ∙ sym (held-none vertexWidth (layoutOf h .vertices) whole whole i e))
+          (either (ltb i (h .vertices)))
+
+  pub assembled-records : recordIn (working (h .vertices) (h .records)) vertices records ≡ recordIn (layoutOf h) (assembled h vertices records) (assembled h vertices records)
+  unfolding recordIn assembled
+  assembled-records = λ k i. recordFrom (same i k)
+    where
+      same : (i : ℕ) → heldIn recordWidth (working (h .vertices) (h .records) .records) vertices records i ≡ heldIn recordWidth (layoutOf h .records) whole whole i
+      same i =
+          ⊎-elim
+          (λ t. let l = ltb-true i (h .records) t in
+          let none-before : i - 0 ≡ i = omega arith in
+          held-growth recordWidth (working (h .vertices) (h .records) .records) vertices records i l (omega arith)
+          ∙ ap (λ (n : ℕ). take recordWidth (drop (recordWidth * n) records)) none-before
+          ∙ sym (front-entry recordWidth i (h .records) records [] l deep)
+          ∙ ap (λ (r : List ℕ). take recordWidth (drop (recordWidth * i) r))
+          (append-nil recordPart ∙ sym (drop-at (headerBytes h ++ vertexPart) recordPart (headerWidth + vertexWidth * h .vertices) front-wide))
+          ∙ sym (held-base recordWidth (layoutOf h .records) whole whole i l l))
+          (λ g. let e = ltb-false i (h .records) g in
+          held-none recordWidth (working (h .vertices) (h .records) .records) vertices records i e
+          ∙ sym (held-none recordWidth (layoutOf h .records) whole whole i e))
+          (either (ltb i (h .records)))

@@ -1,101 +1,131 @@
--- What the writers leave: the entry that was written is read back, every other entry and every byte outside it is as it was, and so is
--- the length.
-use mathlib.Core.Path.{_≡_, ap, _∙_}
+-- What the writers leave, of tables read as functions of the number: the entry that was written is there, every other entry of both
+-- tables is as it was, and so are the slices' lengths.
+use mathlib.Core.Path.{_≡_, refl, sym, ap, _∙_, subst}
 use mathlib.Core.Logic.{_≢_}
-use mathlib.Core.Bool.{true}
-use Prim.Native.Nat.{ℕ, _+_, _*_, _≤_, _<_}
+use Prim.Native.Nat.{ℕ, _+_, _-_, _*_, _≤_, _<_}
+use native.Mathlib.Nat.{mul-suc, mul-le-mul-left}
 use native.Mathlib.Omega.{arith}
-use mathlib.Core.List.{List, [], _∷_, _++_}
-use lib.ListN.{length, set, take, drop}
-use lib.Seq.{length-sets}
-use Rattle.laws.specs.Below.{listBelow}
-use Rattle.laws.specs.Lists.{sets-before, sets-after, sets-run, entry-same, entry-other, entry-after, list-set, list-more}
-use Rattle.stored.specs.declared.Header.{Header}
+use mathlib.Core.List.{List, [], append-nil}
+use lib.ListN.{length}
+use Rattle.laws.specs.Below.{putAt, put-is}
+use Rattle.stored.specs.declared.Table.{Table}
+use Rattle.stored.specs.declared.Layout.{Layout}
 use Rattle.stored.specs.declared.Vertex.{Vertex}
 use Rattle.stored.specs.declared.Record.{Record}
-use Rattle.stored.specs.Layout.{headerWidth, vertexWidth, recordWidth, rightMark, headerOf, headerBytes, headerInto, vertexFrom, vertexBytes, vertexIn, vertexInto, recordFrom, recordBytes, recordIn, recordInto}
-use Rattle.stored.specs.Fitting.{HeaderFits, VertexFits, RecordFits}
-use Rattle.stored.specs.Entries.{header-wide, header-again, header-right, vertex-wide, vertex-again, vertex-front, record-wide, record-again, record-front}
+use Rattle.stored.specs.Layout.{vertexWidth, recordWidth, vertexFrom, vertexBytes, recordFrom, recordBytes, heldIn, baseInto, grownInto, vertexIn, recordIn, working}
+use Rattle.stored.specs.Held.{Room, Before, held-same, held-other, held-before, held-after, base-length, growth-length}
+use Rattle.stored.specs.Fitting.{VertexFits, RecordFits}
+use Rattle.stored.specs.Entries.{vertex-wide, vertex-again, record-wide, record-again}
 
--- ---- the header
+-- The slices hold the two tables of a layout: vertices and records have version 1's widths, each entry lies within its slice, and the
+-- vertices stand before the records.
+pub record Holds (l : Layout) (base grown : List ℕ) : Type 0 where
+  pub vertexWide : vertexWidth ≡ l .format .«vertex_width»
+  pub recordWide : recordWidth ≡ l .format .«record_width»
+  pub vertices : Room (l .format .«vertex_width») (l .vertices) base grown
+  pub records : Room (l .format .«record_width») (l .records) base grown
+  pub apart : Before (l .format .«vertex_width») (l .vertices) (l .records)
 
-module _ (s : List ℕ) (h : Header) where
-  pub header-length : length (headerInto s h) ≡ length s
-  unfolding headerInto
-  header-length = length-sets s 0 (headerBytes h)
+-- Nothing but the slices' lengths is asked of them.
+room-kept : (w : ℕ) (t : Table) (base grown base′ grown′ : List ℕ) → length base′ ≡ length base → length grown′ ≡ length grown → Room w t base grown → Room w t base′ grown′
+room-kept w t base grown base′ grown′ b g r =
+    record {
+      inBase = λ i e c. let l = r .inBase i e c in omega arith;
+      inGrowth = λ i e c. let l = r .inGrowth i e c in omega arith;
+    }
 
-  pub header-after : (n : ℕ) → headerWidth ≤ n → drop n (headerInto s h) ≡ drop n s
-  unfolding headerInto
-  header-after n l = sets-after s 0 (headerBytes h) n (rw (header-wide h) l)
+pub holds-kept : (l : Layout) (base grown base′ grown′ : List ℕ) → length base′ ≡ length base → length grown′ ≡ length grown → Holds l base grown → Holds l base′ grown′
+holds-kept l base grown base′ grown′ b g h =
+    record {
+      vertexWide = h .vertexWide;
+      recordWide = h .recordWide;
+      vertices = room-kept (l .format .«vertex_width») (l .vertices) base grown base′ grown′ b g (h .vertices);
+      records = room-kept (l .format .«record_width») (l .records) base grown base′ grown′ b g (h .records);
+      apart = h .apart;
+    }
 
-  header-whole : headerWidth ≤ length s → headerInto s h ≡ headerBytes h ++ drop headerWidth s
-  unfolding headerInto
-  header-whole l = sets-run s 0 (headerBytes h) (rw (header-wide h) l) ∙ ap (λ (n : ℕ). headerBytes h ++ drop (0 + n) s) (header-wide h)
+-- An entry below the n-th ends where n entries end.
+within : (w i n : ℕ) → i < n → w * i + w ≤ w * n
+within w i n l = rw (← mul-suc w i) (mul-le-mul-left w l)
 
-  pub header-kept : HeaderFits h → headerWidth ≤ length s → headerOf (headerInto s h) ≡ h
-  header-kept f l = ap headerOf (header-whole l) ∙ header-again h f (drop headerWidth s)
+-- Tables to work on are held by slices that are long enough.
+pub working-holds : (vertices records : ℕ) (base grown : List ℕ) → vertexWidth * vertices ≤ length base → recordWidth * records ≤ length grown → Holds (working vertices records) base grown
+working-holds vertices records base grown b g =
+    record {
+      vertexWide = refl;
+      recordWide = refl;
+      vertices = record {
+        inBase = λ i e c. omega arith;
+        inGrowth = λ i e c. absurd (omega arith);
+      };
+      records = record {
+        inBase = λ i e c. absurd (omega arith);
+        inGrowth = λ i e c. omega arith;
+      };
+      apart = record {
+        inBase = λ i e c. omega arith;
+        inGrowth = λ i e c. absurd (omega arith);
+      };
+    }
 
-  pub header-marked : headerWidth ≤ length s → rightMark (headerInto s h) ≡ true
-  header-marked l = ap rightMark (header-whole l) ∙ header-right h (drop headerWidth s)
+-- ---- a vertex is written
 
--- ---- a vertex
+module _ (l : Layout) (base grown : List ℕ) (h : Holds l base grown) (i : ℕ) (v : Vertex) where
+  abbrev vertexBase : List ℕ
+  vertexBase = baseInto (l .format .«vertex_width») (l .vertices) base i (vertexBytes v)
 
-module _ (t : List ℕ) (i : ℕ) (v : Vertex) where
-  pub vertex-length : length (vertexInto t i v) ≡ length t
-  unfolding vertexInto
-  vertex-length = length-sets t (vertexWidth * i) (vertexBytes v)
+  abbrev vertexGrowth : List ℕ
+  vertexGrowth = grownInto (l .format .«vertex_width») (l .vertices) grown i (vertexBytes v)
 
-  pub vertex-before : (n : ℕ) → n ≤ vertexWidth * i → take n (vertexInto t i v) ≡ take n t
-  unfolding vertexInto
-  vertex-before n l = sets-before t (vertexWidth * i) (vertexBytes v) n l
+  wide-vertex : length (vertexBytes v) ≡ l .format .«vertex_width»
+  wide-vertex = vertex-wide v ∙ h .vertexWide
 
-  pub vertex-after : (n : ℕ) → vertexWidth * i + vertexWidth ≤ n → drop n (vertexInto t i v) ≡ drop n t
-  unfolding vertexInto
-  vertex-after n l = entry-after vertexFrom vertexBytes vertexWidth vertex-wide t i v n l
+  pub vertex-put : VertexFits v → i < l .vertices .end → vertexIn l vertexBase vertexGrowth ≡ putAt i v (vertexIn l base grown)
+  unfolding vertexIn
+  vertex-put f e =
+      put-is i v (vertexIn l base grown) (vertexIn l vertexBase vertexGrowth)
+      (ap vertexFrom (held-same (l .format .«vertex_width») (l .vertices) base grown i (vertexBytes v) wide-vertex (h .vertices) e ∙ sym (append-nil (vertexBytes v))) ∙ vertex-again v f [])
+      (λ j ne. ap vertexFrom (held-other (l .format .«vertex_width») (l .vertices) base grown i (vertexBytes v) wide-vertex j ne))
 
-  pub vertex-other : (j : ℕ) → j ≢ i → vertexIn (vertexInto t i v) j ≡ vertexIn t j
-  unfolding vertexIn vertexInto
-  vertex-other j ne = entry-other vertexFrom vertexBytes vertexWidth vertex-wide vertex-front t i j v ne
+  pub vertex-put-records : recordIn l vertexBase vertexGrowth ≡ recordIn l base grown
+  unfolding recordIn
+  vertex-put-records =
+      λ k j. recordFrom (held-after (l .format .«vertex_width») (l .format .«record_width») (l .vertices) (l .records) (h .apart) base grown i (vertexBytes v) wide-vertex j k)
 
-  module _ (f : VertexFits v) (within : vertexWidth * i + vertexWidth ≤ length t) where
-    pub vertex-kept : vertexIn (vertexInto t i v) i ≡ v
-    unfolding vertexIn vertexInto
-    vertex-kept = entry-same vertexFrom vertexBytes vertexWidth vertex-wide t i v (vertex-again v f) within
+  pub vertex-put-holds : Holds l vertexBase vertexGrowth
+  vertex-put-holds =
+      holds-kept l base grown vertexBase vertexGrowth
+      (base-length (l .format .«vertex_width») (l .vertices) base i (vertexBytes v))
+      (growth-length (l .format .«vertex_width») (l .vertices) grown i (vertexBytes v))
+      h
 
-    -- the table as a list: vertex i is changed, or follows the first i
-    pub vertices-set : (n : ℕ) → i < n → listBelow n (vertexIn (vertexInto t i v)) ≡ set (listBelow n (vertexIn t)) i v
-    vertices-set n l = list-set (vertexIn t) (vertexIn (vertexInto t i v)) n i v l vertex-kept (λ k ne. vertex-other k ne)
+-- ---- a record is written
 
-    pub vertices-more : listBelow (i + 1) (vertexIn (vertexInto t i v)) ≡ listBelow i (vertexIn t) ++ v ∷ []
-    vertices-more = list-more (vertexIn t) (vertexIn (vertexInto t i v)) i v vertex-kept (λ k l. vertex-other k (omega arith))
+module _ (l : Layout) (base grown : List ℕ) (h : Holds l base grown) (i : ℕ) (r : Record) where
+  abbrev recordBase : List ℕ
+  recordBase = baseInto (l .format .«record_width») (l .records) base i (recordBytes r)
 
--- ---- a record
+  abbrev recordGrowth : List ℕ
+  recordGrowth = grownInto (l .format .«record_width») (l .records) grown i (recordBytes r)
 
-module _ (t : List ℕ) (i : ℕ) (r : Record) where
-  pub record-length : length (recordInto t i r) ≡ length t
-  unfolding recordInto
-  record-length = length-sets t (recordWidth * i) (recordBytes r)
+  wide-record : length (recordBytes r) ≡ l .format .«record_width»
+  wide-record = record-wide r ∙ h .recordWide
 
-  pub record-before : (n : ℕ) → n ≤ recordWidth * i → take n (recordInto t i r) ≡ take n t
-  unfolding recordInto
-  record-before n l = sets-before t (recordWidth * i) (recordBytes r) n l
+  pub record-put : RecordFits r → i < l .records .end → recordIn l recordBase recordGrowth ≡ putAt i r (recordIn l base grown)
+  unfolding recordIn
+  record-put f e =
+      put-is i r (recordIn l base grown) (recordIn l recordBase recordGrowth)
+      (ap recordFrom (held-same (l .format .«record_width») (l .records) base grown i (recordBytes r) wide-record (h .records) e ∙ sym (append-nil (recordBytes r))) ∙ record-again r f [])
+      (λ j ne. ap recordFrom (held-other (l .format .«record_width») (l .records) base grown i (recordBytes r) wide-record j ne))
 
-  pub record-after : (n : ℕ) → recordWidth * i + recordWidth ≤ n → drop n (recordInto t i r) ≡ drop n t
-  unfolding recordInto
-  record-after n l = entry-after recordFrom recordBytes recordWidth record-wide t i r n l
+  pub record-put-vertices : vertexIn l recordBase recordGrowth ≡ vertexIn l base grown
+  unfolding vertexIn
+  record-put-vertices =
+      λ k j. vertexFrom (held-before (l .format .«vertex_width») (l .format .«record_width») (l .vertices) (l .records) (h .apart) base grown i (recordBytes r) j k)
 
-  pub record-other : (j : ℕ) → j ≢ i → recordIn (recordInto t i r) j ≡ recordIn t j
-  unfolding recordIn recordInto
-  record-other j ne = entry-other recordFrom recordBytes recordWidth record-wide record-front t i j r ne
-
-  module _ (f : RecordFits r) (within : recordWidth * i + recordWidth ≤ length t) where
-    pub record-kept : recordIn (recordInto t i r) i ≡ r
-    unfolding recordIn recordInto
-    record-kept = entry-same recordFrom recordBytes recordWidth record-wide t i r (record-again r f) within
-
-    -- the table as a list, as for vertices
-    pub records-set : (n : ℕ) → i < n → listBelow n (recordIn (recordInto t i r)) ≡ set (listBelow n (recordIn t)) i r
-    records-set n l = list-set (recordIn t) (recordIn (recordInto t i r)) n i r l record-kept (λ k ne. record-other k ne)
-
-    pub records-more : listBelow (i + 1) (recordIn (recordInto t i r)) ≡ listBelow i (recordIn t) ++ r ∷ []
-    records-more = list-more (recordIn t) (recordIn (recordInto t i r)) i r record-kept (λ k l. record-other k (omega arith))
+  pub record-put-holds : Holds l recordBase recordGrowth
+  record-put-holds =
+      holds-kept l base grown recordBase recordGrowth
+      (base-length (l .format .«record_width») (l .records) base i (recordBytes r))
+      (growth-length (l .format .«record_width») (l .records) grown i (recordBytes r))
+      h

@@ -1,12 +1,13 @@
-// The stored mesh, version 1, and the selection. Only this crate and those that read and write for it (headers, entries, selections,
-// encoded, written) know an offset, a width or a stride.
+// The stored mesh, version 1, and the selection. Only this crate and those that read and write for it (`stored_…`) know an offset, a
+// width or a stride.
 //
-// In memory every number is a u32, and a coordinate is its place. No reader and no writer asks anything of its slices: past the end a
-// byte reads as 0, and nothing is written there.
+// In memory every number is a u32, a coordinate is its place, and no parent and no child are `NONE`. A mesh is handed on as a layout, which
+// says where its two tables stand, and two slices: a base slice and a growth slice. No reader and no writer asks anything of its slices:
+// past the end a byte reads as 0, and nothing is written there.
 use grid::Place;
 use piece::Piece;
 ghost use mathlib.Core.Path.{_≡_};
-ghost use Rattle.stored.specs.Layout.{verticesOf, recordsOf};
+ghost use Rattle.stored.specs.Layout.{version1, limits, layoutOf, working};
 
 pub const HEADER_WIDTH: usize = 20;
 
@@ -14,8 +15,50 @@ pub const VERTEX_WIDTH: usize = 10;
 
 pub const RECORD_WIDTH: usize = 17;
 
-// "The largest mesh is 62,484 bytes": 1,024 vertices and 3,072 records.
-pub const LARGEST: usize = HEADER_WIDTH + 1024 * VERTEX_WIDTH + 3072 * RECORD_WIDTH;
+// "At most 1,024 vertices and 3,072 records."
+pub const VERTICES: usize = 1024;
+
+pub const RECORDS: usize = 3072;
+
+// How many bytes so many vertices and so many records have, and with a header: "The largest mesh is 62,484 bytes."
+pub const VERTEX_BYTES: usize = VERTICES * VERTEX_WIDTH;
+
+pub const RECORD_BYTES: usize = RECORDS * RECORD_WIDTH;
+
+pub const LARGEST: usize = HEADER_WIDTH + VERTEX_BYTES + RECORD_BYTES;
+
+// In memory, for no parent and for no child: no vertex and no record of any version has this number.
+pub const NONE: u32 = 4294967295;
+
+// How none is stored.
+pub const STORED_NONE: u32 = 65535;
+
+// How many vertices and records there may be at most.
+pub struct Limits {
+    pub vertices: u32,
+    pub records: u32,
+}
+
+// What an entry's bytes are: how many a vertex and a record have.
+pub struct Format {
+    pub vertex_width: u32,
+    pub record_width: u32,
+}
+
+// Where a table's entries stand: the first `count` from `base` on in the base slice, the others from `grown` on in the growth slice;
+// there are `end` in all.
+pub struct Table {
+    pub count: u32,
+    pub end: u32,
+    pub base: usize,
+    pub grown: usize,
+}
+
+pub struct Layout {
+    pub format: Format,
+    pub vertices: Table,
+    pub records: Table,
+}
 
 pub struct Header {
     pub job: u32,
@@ -49,15 +92,68 @@ pub struct Selection {
     pub count: u32,
 }
 
-pub fn vertices_of(mesh: &[u8]) -> &[u8]
-    ensures { λ r. ⌜ now r ≡ verticesOf (now (mesh .entry)) ⌝ }
+pub fn limits_of_version_1() -> Limits
+    ensures { λ r. ⌜ r ≡ limits ⌝ }
 {
-    slices::after(mesh, HEADER_WIDTH)
+    Limits {
+        vertices: VERTICES as u32,
+        records: RECORDS as u32,
+    }
 }
 
-pub fn records_of(mesh: &[u8]) -> &[u8]
-    ensures { λ r. ⌜ now r ≡ recordsOf (now (mesh .entry)) ⌝ }
+fn version_1() -> Format
+    ensures { λ r. ⌜ r ≡ version1 ⌝ }
 {
-    let vertices = slices::two(mesh, 13);
-    slices::after(mesh, HEADER_WIDTH + VERTEX_WIDTH * (vertices as usize))
+    Format {
+        vertex_width: VERTEX_WIDTH as u32,
+        record_width: RECORD_WIDTH as u32,
+    }
+}
+
+// A mesh in one buffer, which is handed on as both slices: all vertices stand after the header, and all records after them.
+pub fn layout_of(h: Header) -> Layout
+    ensures { λ r. ⌜ r ≡ layoutOf h ⌝ }
+{
+    let format = version_1();
+    let vertices = Table {
+        count: h.vertices,
+        end: h.vertices,
+        base: HEADER_WIDTH,
+        grown: 0,
+    };
+    let records = Table {
+        count: h.records,
+        end: h.records,
+        base: HEADER_WIDTH + VERTEX_WIDTH * (h.vertices as usize),
+        grown: 0,
+    };
+    Layout {
+        format: format,
+        vertices: vertices,
+        records: records,
+    }
+}
+
+// Tables to work on, with room for so many vertices, alone in the base slice, and so many records, alone in the growth slice.
+pub fn working_layout(vertices: u32, records: u32) -> Layout
+    ensures { λ r. ⌜ r ≡ working vertices records ⌝ }
+{
+    let format = version_1();
+    let in_base = Table {
+        count: vertices,
+        end: vertices,
+        base: 0,
+        grown: 0,
+    };
+    let in_growth = Table {
+        count: 0,
+        end: records,
+        base: VERTEX_WIDTH * (vertices as usize),
+        grown: 0,
+    };
+    Layout {
+        format: format,
+        vertices: in_base,
+        records: in_growth,
+    }
 }

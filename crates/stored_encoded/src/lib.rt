@@ -4,7 +4,7 @@ use stored::Record;
 use stored::Vertex;
 ghost use mathlib.Core.Path.{_≡_};
 ghost use mathlib.Core.List.{_++_};
-ghost use Rattle.stored.specs.Layout.{u16Bytes, headerBytes, vertexBytes, recordBytes};
+ghost use Rattle.stored.specs.Layout.{u16Bytes, storedOrNone, headerBytes, vertexBytes, recordBytes};
 
 // The bytes of four numbers, one after the other.
 fn number_bytes(a: u32, b: u32, c: u32, d: u32) -> [u8; 8]
@@ -52,15 +52,27 @@ pub fn header_bytes(h: Header) -> [u8; 20]
     ]
 }
 
+// How a parent or a first child, which may be none, is stored.
+fn stored_or_none(n: u32) -> u32
+    ensures { λ r. ⌜ r ≡ storedOrNone n ⌝ }
+{
+    if n == stored::NONE {
+        stored::STORED_NONE
+    } else {
+        n
+    }
+}
+
 pub fn vertex_bytes(v: Vertex) -> [u8; 10]
     ensures { λ r. ⌜ r ≡ vertexBytes v ⌝ }
 {
     let place = v.place;
-    let q = v.q;
+    let p = stored_or_none(v.p);
+    let q = stored_or_none(v.q);
     let x = (place.x as u32 + 32768) % 65536;
     let y = (place.y as u32 + 32768) % 65536;
     let z = (place.z as u32 + 32768) % 65536;
-    let front = number_bytes(x, y, z, v.p);
+    let front = number_bytes(x, y, z, p);
     [
         front[0],
         front[1],
@@ -79,7 +91,7 @@ pub fn record_bytes(r: Record) -> [u8; 17]
     ensures { λ b. ⌜ b ≡ recordBytes r ⌝ }
 {
     let piece = r.piece;
-    let child = r.first_child;
+    let child = stored_or_none(r.first_child);
     let corners = piece.corners;
     let marks = piece.marks;
     let front = number_bytes(corners[0], corners[1], corners[2], corners[3]);

@@ -1,12 +1,43 @@
-// The vertices and records of a stored mesh's tables, read one by one.
+// The vertices and records of a mesh's tables, read one by one.
 use grid::Place;
 use piece::Piece;
+use stored::Layout;
 use stored::Parents;
 use stored::Record;
+use stored::Table;
 use stored::Vertex;
 ghost use mathlib.Core.Path.{_≡_};
 ghost use mathlib.Core.List.{[], _∷_};
-ghost use Rattle.stored.specs.Layout.{byteAt, u16At, placeOf, vertexFrom, vertexIn, parentsOf, recordFrom, recordIn};
+ghost use Rattle.stored.specs.Layout.{
+  byteAt,
+  u16At,
+  placeOf,
+  orNone,
+  heldIn,
+  vertexFrom,
+  vertexIn,
+  parentsOf,
+  recordFrom,
+  recordIn,
+};
+
+// The part of the base slice or of the growth slice that holds entry i, chosen by its number against the count; past the end nothing.
+fn held<'a>(width: u32, t: Table, base: &'a [u8], grown: &'a [u8], i: usize) -> &'a [u8]
+    ensures { λ r. ⌜ now r ≡ heldIn width t (now (base .entry)) (now (grown .entry)) i ⌝ }
+{
+    let wide = width as usize;
+    if t.end as usize <= i {
+        return slices::part(base, 0, 0);
+    }
+    if i < t.count as usize {
+        return slices::part(slices::after(base, t.base), wide * i, wide);
+    }
+    slices::part(
+        slices::after(grown, t.grown),
+        wide * (i - t.count as usize),
+        wide,
+    )
+}
 
 // A coordinate, as its place.
 fn place(s: &[u8], at: usize) -> u16
@@ -14,6 +45,18 @@ fn place(s: &[u8], at: usize) -> u16
 {
     let n = slices::two(s, at);
     ((n + 32768) % 65536) as u16
+}
+
+// A parent or a first child, which may be none.
+fn number_or_none(s: &[u8], at: usize) -> u32
+    ensures { λ r. ⌜ r ≡ orNone (u16At (now (s .entry)) at) ⌝ }
+{
+    let n = slices::two(s, at);
+    if n == stored::STORED_NONE {
+        stored::NONE
+    } else {
+        n
+    }
 }
 
 fn vertex_from(entry: &[u8]) -> Vertex
@@ -26,25 +69,29 @@ fn vertex_from(entry: &[u8]) -> Vertex
     };
     Vertex {
         place: place,
-        p: slices::two(entry, 6),
-        q: slices::two(entry, 8),
+        p: number_or_none(entry, 6),
+        q: number_or_none(entry, 8),
     }
 }
 
-pub fn vertex_in(table: &[u8], i: usize) -> Vertex
-    ensures { λ r. ⌜ r ≡ vertexIn (now (table .entry)) i ⌝ }
+pub fn vertex_in<'a>(l: Layout, base: &'a [u8], grown: &'a [u8], i: usize) -> Vertex
+    ensures { λ r. ⌜ r ≡ vertexIn l (now (base .entry)) (now (grown .entry)) i ⌝ }
 {
-    vertex_from(slices::entry(table, i, stored::VERTEX_WIDTH))
+    let format = l.format;
+    let vertices = l.vertices;
+    vertex_from(held(format.vertex_width, vertices, base, grown, i))
 }
 
 // A vertex's parents alone, for searches.
-pub fn parents_in(table: &[u8], i: usize) -> Parents
-    ensures { λ r. ⌜ r ≡ parentsOf (vertexIn (now (table .entry)) i) ⌝ }
+pub fn parents_in<'a>(l: Layout, base: &'a [u8], grown: &'a [u8], i: usize) -> Parents
+    ensures { λ r. ⌜ r ≡ parentsOf (vertexIn l (now (base .entry)) (now (grown .entry)) i) ⌝ }
 {
-    let vertex = slices::entry(table, i, stored::VERTEX_WIDTH);
+    let format = l.format;
+    let vertices = l.vertices;
+    let vertex = held(format.vertex_width, vertices, base, grown, i);
     Parents {
-        p: slices::two(vertex, 6),
-        q: slices::two(vertex, 8),
+        p: number_or_none(vertex, 6),
+        q: number_or_none(vertex, 8),
     }
 }
 
@@ -87,20 +134,24 @@ fn record_from(entry: &[u8]) -> Record
     };
     Record {
         piece: piece,
-        first_child: slices::two(entry, 15),
+        first_child: number_or_none(entry, 15),
     }
 }
 
-pub fn record_in(table: &[u8], i: usize) -> Record
-    ensures { λ r. ⌜ r ≡ recordIn (now (table .entry)) i ⌝ }
+pub fn record_in<'a>(l: Layout, base: &'a [u8], grown: &'a [u8], i: usize) -> Record
+    ensures { λ r. ⌜ r ≡ recordIn l (now (base .entry)) (now (grown .entry)) i ⌝ }
 {
-    record_from(slices::entry(table, i, stored::RECORD_WIDTH))
+    let format = l.format;
+    let records = l.records;
+    record_from(held(format.record_width, records, base, grown, i))
 }
 
 // The record's first child alone, for quick searches.
-pub fn first_child_in(table: &[u8], i: usize) -> u32
-    ensures { λ r. ⌜ r ≡ recordIn (now (table .entry)) i .«first_child» ⌝ }
+pub fn first_child_in<'a>(l: Layout, base: &'a [u8], grown: &'a [u8], i: usize) -> u32
+    ensures { λ r. ⌜ r ≡ recordIn l (now (base .entry)) (now (grown .entry)) i .«first_child» ⌝ }
 {
-    let record = slices::entry(table, i, stored::RECORD_WIDTH);
-    slices::two(record, 15)
+    let format = l.format;
+    let records = l.records;
+    let record = held(format.record_width, records, base, grown, i);
+    number_or_none(record, 15)
 }

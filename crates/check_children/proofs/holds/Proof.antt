@@ -8,7 +8,7 @@ use Rattle.check_children.proofs.holds.Statement.{statement}
 use Rattle.check_children.proofs.holds.Tie as tie
 
 returns : tie.Need-returns
-returns c = c .same-piece .ensures ∙ ap (λ (r : Record). samePiece (r .piece) (c .before .before .before .before .args .p)) (c .before .before .record-in .ensures)
+returns c = c .same-piece .ensures ∙ ap (λ (r : Record). samePiece (r .piece) (c .before .before .before .before .before .args .p)) (c .before .before .record-in .ensures)
 
 pub holds-spec : {M : Type 1} → statement M
 holds-spec = tie.close (tie.spec (λ c κs. search needs) (λ c κs. search needs) returns)

@@ -13,22 +13,22 @@ use Rattle.check_children.proofs.is_midpoint.Statement.{statement}
 use Rattle.check_children.proofs.is_midpoint.Tie as tie
 
 abbrev Inv-loop : tie.InvT-loop
-Inv-loop h vertices records v count n₀ n = (n ≤ (h .records)) × (anyBelow n (isMidpointOf (tables h vertices records) v) ≡ false)
+Inv-loop h l base grown v count n₀ n = (n ≤ (h .records)) × (anyBelow n (isMidpointOf (tables h l base grown) v) ≡ false)
 
 abbrev μ-loop : tie.MeasureT-loop
-μ-loop h vertices records v count n₀ n = (h .records) - n
+μ-loop h l base grown v count n₀ n = (h .records) - n
 
 loop-holds : tie.Need-loop-holds Inv-loop μ-loop
-loop-holds c = (omega arith, any-none (isMidpointOf (tables (c .before .before .before .args .h) (now (c .before .before .before .args .vertices)) (now (c .before .before .before .args .records))) (c .before .before .before .args .v)))
+loop-holds c = (omega arith, any-none (isMidpointOf (tables (c .before .before .before .args .h) (c .before .before .before .args .l) (now (c .before .before .before .args .base)) (now (c .before .before .before .args .grown))) (c .before .before .before .args .v)))
 
 returns : tie.Need-returns Inv-loop μ-loop
-returns c = sym (any-is (isMidpointOf (tables (c .before .before .before .before .before .before .before .args .h) (now (c .before .before .before .before .before .before .before .args .vertices)) (now (c .before .before .before .before .before .before .before .args .records))) (c .before .before .before .before .before .before .before .args .v)) ((c .before .before .before .before .before .before .before .args .h) .records) (c .before .before .before .loop .n) (c .before .before .loop-test .taken) (sym (c .before .is-midpoint-of .ensures) ∙ c .if1 .taken))
+returns c = sym (any-is (isMidpointOf (tables (c .before .before .before .before .before .before .before .args .h) (c .before .before .before .before .before .before .before .args .l) (now (c .before .before .before .before .before .before .before .args .base)) (now (c .before .before .before .before .before .before .before .args .grown))) (c .before .before .before .before .before .before .before .args .v)) ((c .before .before .before .before .before .before .before .args .h) .records) (c .before .before .before .loop .n) (c .before .before .loop-test .taken) (sym (c .before .is-midpoint-of .ensures) ∙ c .if1 .taken))
 
 loop-again : tie.Need-loop-again Inv-loop μ-loop
-loop-again c = (omega arith, any-next (isMidpointOf (tables (c .before .before .before .before .before .before .before .args .h) (now (c .before .before .before .before .before .before .before .args .vertices)) (now (c .before .before .before .before .before .before .before .args .records))) (c .before .before .before .before .before .before .before .args .v)) (c .before .before .before .loop .n) (c .before .before .before .loop .inv .1) (sym (c .before .is-midpoint-of .ensures) ∙ c .if1 .left))
+loop-again c = (omega arith, any-next (isMidpointOf (tables (c .before .before .before .before .before .before .before .args .h) (c .before .before .before .before .before .before .before .args .l) (now (c .before .before .before .before .before .before .before .args .base)) (now (c .before .before .before .before .before .before .before .args .grown))) (c .before .before .before .before .before .before .before .args .v)) (c .before .before .before .loop .n) (c .before .before .before .loop .inv .1) (sym (c .before .is-midpoint-of .ensures) ∙ c .if1 .left))
 
 returns-2 : tie.Need-returns-2 Inv-loop μ-loop
-returns-2 c = sym (any-end (isMidpointOf (tables (c .before .before .before .before .before .args .h) (now (c .before .before .before .before .before .args .vertices)) (now (c .before .before .before .before .before .args .records))) (c .before .before .before .before .before .args .v)) ((c .before .before .before .before .before .args .h) .records) (c .before .loop .n) (c .loop-test .left) (c .before .loop .inv .0) (c .before .loop .inv .1))
+returns-2 c = sym (any-end (isMidpointOf (tables (c .before .before .before .before .before .args .h) (c .before .before .before .before .before .args .l) (now (c .before .before .before .before .before .args .base)) (now (c .before .before .before .before .before .args .grown))) (c .before .before .before .before .before .args .v)) ((c .before .before .before .before .before .args .h) .records) (c .before .loop .n) (c .loop-test .left) (c .before .loop .inv .0) (c .before .loop .inv .1))
 
 pub is-midpoint-spec : {M : Type 1} → statement M
 is-midpoint-spec = tie.close (tie.spec Inv-loop μ-loop (λ c. search needs) loop-holds (λ c κs. search needs) returns (λ c. search needs) (λ c. search needs) loop-again returns-2)

@@ -4,14 +4,14 @@ use borrow.Author.Needs.{needs}
 use Prim.Native.Nat.{ℕ, _<_}
 use mathlib.Core.Path.{sym, _∙_, subst}
 use denote.Ref.{now}
-use Rattle.check_refusals.specs.Tables.{tables}
+use Rattle.stored.specs.Layout.{recordIn}
 use Rattle.check_refusals.specs.Refusals.{badTogether}
 use Rattle.check_faces.specs.Sharing.{few-shared}
 use Rattle.check_faces.proofs.bad_together.Statement.{statement}
 use Rattle.check_faces.proofs.bad_together.Tie as tie
 
 returns : tie.Need-returns
-returns c = sym (few-shared (c .before .before .before .before .args .p) (c .before .before .before .before .args .q) (tables (c .before .before .before .before .args .h) (now (c .before .before .before .before .args .vertices)) (now (c .before .before .before .before .args .records))) (c .before .before .before .before .args .r) (subst (λ (k : ℕ). k < 3) (c .before .shared-corners .ensures) (c .if1 .taken)))
+returns c = sym (few-shared (c .before .before .before .before .args .p) (c .before .before .before .before .args .q) (recordIn (c .before .before .before .before .args .l) (now (c .before .before .before .before .args .base)) (now (c .before .before .before .before .args .grown))) (c .before .before .before .before .args .r) (subst (λ (k : ℕ). k < 3) (c .before .shared-corners .ensures) (c .if1 .taken)))
 
 returns-2 : tie.Need-returns-2
 unfolding badTogether

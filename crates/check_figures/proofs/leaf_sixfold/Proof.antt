@@ -4,14 +4,15 @@ use borrow.Author.Needs.{needs}
 use mathlib.Core.Path.{sym, _∙_, ap}
 use denote.Ref.{now}
 use Rattle.stored.specs.declared.Record.{Record}
-use Rattle.check_refusals.specs.Tables.{tables, sixfoldAt}
+use Rattle.stored.specs.Layout.{vertexIn}
+use Rattle.check_refusals.specs.Tables.{sixfoldAt}
 use Rattle.check_refusals.specs.Check.{leafSixfold}
 use Rattle.check_figures.proofs.leaf_sixfold.Statement.{statement}
 use Rattle.check_figures.proofs.leaf_sixfold.Tie as tie
 
 returns : tie.Need-returns
 unfolding leafSixfold
-returns c = rw (sym (c .before .before .before .before .is-leaf .ensures) ∙ c .before .before .before .if1 .taken) (c .sixfold-of .ensures ∙ ap (λ (r : Record). sixfoldAt (tables (c .before .before .before .before .before .before .before .args .h) (now (c .before .before .before .before .before .before .before .args .vertices)) (now (c .before .before .before .before .before .before .before .args .records))) (r .piece)) (c .before .before .record-in .ensures))
+returns c = rw (sym (c .before .before .before .before .is-leaf .ensures) ∙ c .before .before .before .if1 .taken) (c .sixfold-of .ensures ∙ ap (λ (r : Record). sixfoldAt (vertexIn (c .before .before .before .before .before .before .before .args .l) (now (c .before .before .before .before .before .before .before .args .base)) (now (c .before .before .before .before .before .before .before .args .grown))) (r .piece)) (c .before .before .record-in .ensures))
 
 returns-2 : tie.Need-returns-2
 unfolding leafSixfold

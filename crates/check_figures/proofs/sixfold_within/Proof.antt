@@ -8,11 +8,11 @@ use Rattle.check_figures.proofs.sixfold_within.Tie as tie
 
 returns : tie.Need-returns
 unfolding sixfoldWithin
-returns c = rw (lt-ltb 3072 _ (c .if1 .taken))
+returns c = rw (lt-ltb _ _ (c .if1 .taken))
 
 returns-2 : tie.Need-returns-2
 unfolding sixfoldWithin
-returns-2 c = rw (le-ltb 3072 _ (c .before .if1 .left)) (c .sixfold-sum .ensures)
+returns-2 c = rw (le-ltb _ _ (c .before .if1 .left)) (c .sixfold-sum .ensures)
 
 pub sixfold-within-spec : {M : Type 1} → statement M
-sixfold-within-spec = tie.close (tie.spec returns (λ c κs. search needs) returns-2)
+sixfold-within-spec = tie.close (tie.spec (λ c. search needs) returns (λ c κs. search needs) returns-2)

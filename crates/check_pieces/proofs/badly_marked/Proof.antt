@@ -3,12 +3,11 @@
 use borrow.Author.Needs.{needs}
 use mathlib.Core.Path.{_∙_, ap}
 use Rattle.stored.specs.declared.Record.{Record}
-use Rattle.check_refusals.specs.Refusals.{badMarks, badlyMarked}
+use Rattle.check_refusals.specs.Refusals.{badMarks}
 use Rattle.check_pieces.proofs.badly_marked.Statement.{statement}
 use Rattle.check_pieces.proofs.badly_marked.Tie as tie
 
 returns : tie.Need-returns
-unfolding badlyMarked
 returns c = c .bad-marks .ensures ∙ ap (λ (r : Record). badMarks (r .piece)) (c .before .before .record-in .ensures)
 
 pub badly-marked-spec : {M : Type 1} → statement M

@@ -13,7 +13,7 @@ use Rattle.check_places.proofs.place_twice.Tie as tie
 
 returns : tie.Need-returns
 unfolding placeTwice
-returns c = c .place-taken .ensures ∙ ap (λ (v : Vertex). anyBelow (c .before .before .before .before .before .args .v) (λ u. samePlace (vertexIn (now (c .before .before .before .before .before .args .vertices)) u .place) (v .place))) (c .before .before .vertex-in .ensures)
+returns c = c .place-taken .ensures ∙ ap (λ (v : Vertex). anyBelow (c .before .before .before .before .before .args .v) (λ u. samePlace (vertexIn (c .before .before .before .before .before .args .l) (now (c .before .before .before .before .before .args .base)) (now (c .before .before .before .before .before .args .grown)) u .place) (v .place))) (c .before .before .vertex-in .ensures)
 
 pub place-twice-spec : {M : Type 1} → statement M
 place-twice-spec = tie.close (tie.spec (λ c κs. search needs) (λ c κs. search needs) returns)

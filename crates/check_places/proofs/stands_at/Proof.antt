@@ -8,7 +8,7 @@ use Rattle.check_places.proofs.stands_at.Statement.{statement}
 use Rattle.check_places.proofs.stands_at.Tie as tie
 
 returns : tie.Need-returns
-returns c = c .same-place .ensures ∙ ap (λ (v : Vertex). samePlace (v .place) (c .before .before .before .before .args .place)) (c .before .before .vertex-in .ensures)
+returns c = c .same-place .ensures ∙ ap (λ (v : Vertex). samePlace (v .place) (c .before .before .before .before .before .args .place)) (c .before .before .vertex-in .ensures)
 
 pub stands-at-spec : {M : Type 1} → statement M
 stands-at-spec = tie.close (tie.spec (λ c κs. search needs) (λ c κs. search needs) returns)

@@ -9,9 +9,8 @@ use Rattle.check_service.proofs.accepted_with.Tie as tie
 
 returns : tie.Need-returns
 returns c =
-    let start = c .before .before .before .before .before in
-    let a = start .args in
-    rw (c .before .before .leaves-of .ensures, c .before .deepest-of .ensures, c .sixfold-within .ensures, within-is (tables (a .h) (now (a .vertices)) (now (a .records))) (start .pre .records))
+    let a = c .before .before .before .before .before .args in
+    rw (c .before .before .leaves-of .ensures, c .before .deepest-of .ensures, c .sixfold-within .ensures, within-is (tables (a .h) (a .l) (now (a .base)) (now (a .grown))) (c .before .before .before .before .before .pre .records))
 
 pub accepted-with-spec : {M : Type 1} → statement M
 accepted-with-spec = tie.close (tie.spec (λ c κs. search needs) (λ c κs. search needs) (λ c κs. search needs) returns)

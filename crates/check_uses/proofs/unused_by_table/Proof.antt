@@ -18,33 +18,33 @@ use Rattle.check_uses.proofs.unused_by_table.Statement.{statement}
 use Rattle.check_uses.proofs.unused_by_table.Tie as tie
 
 abbrev Inv-loop : tie.InvT-loop
-Inv-loop vertices records uses count v₀ v = (v ≤ count) × (anyBelow v (λ x. eqb (getD uses x 0) 0) ≡ false)
+Inv-loop base grown uses count v₀ v = (v ≤ count) × (anyBelow v (λ x. eqb (getD uses x 0) 0) ≡ false)
 
 abbrev μ-loop : tie.MeasureT-loop
-μ-loop vertices records uses count v₀ v = count - v
+μ-loop base grown uses count v₀ v = count - v
 
 count-records-requires : tie.Need-count-records-requires Inv-loop μ-loop
-count-records-requires c κs = (refl, c .before .before .before .before .pre .1)
+count-records-requires c κs = (refl, search needs)
 
 loop-holds : tie.Need-loop-holds Inv-loop μ-loop
 loop-holds c = (omega arith, any-none (λ x. eqb (getD (c .before .before .count-records .last .0) x 0) 0))
 
 mul-if1 : tie.Need-mul-if1 Inv-loop μ-loop
-mul-if1 c = omega (arith, c .loop-test .taken, c .before .before .before .before .before .before .before .before .before .pre .0)
+mul-if1 c = omega (arith, c .loop-test .taken, c .before .before .before .before .before .before .before .before .before .pre)
 
 array-read-if1 : tie.Need-array-read-if1 Inv-loop μ-loop
-array-read-if1 c = omega (arith, c .loop-test .taken, c .before .before .before .before .before .before .before .before .before .pre .0)
+array-read-if1 c = omega (arith, c .loop-test .taken, c .before .before .before .before .before .before .before .before .before .pre)
 
 returns : tie.Need-returns Inv-loop μ-loop
 unfolding unusedVertices
-returns c = let same : anyBelow (c .before .before .before .before .before .before .before .before .before .before .args .h .«base_vertices») (λ x. eqb (getD (c .before .before .before .before .before .count-records .last .0) x 0) 0) ≡ unusedVertices (tables (c .before .before .before .before .before .before .before .before .before .before .args .h) (now (c .before .before .before .before .before .before .before .before .before .before .args .vertices)) (now (c .before .before .before .before .before .before .before .before .before .before .args .records))) = any-same (c .before .before .before .before .before .before .before .before .before .before .args .h .«base_vertices») (λ x. eqb (getD (c .before .before .before .before .before .count-records .last .0) x 0) 0) (unusedVertex (tables (c .before .before .before .before .before .before .before .before .before .before .args .h) (now (c .before .before .before .before .before .before .before .before .before .before .args .vertices)) (now (c .before .before .before .before .before .before .before .before .before .before .args .records)))) (λ k l. rw (c .before .before .before .before .before .count-records .ensures) (unused-is (tables (c .before .before .before .before .before .before .before .before .before .before .args .h) (now (c .before .before .before .before .before .before .before .before .before .before .args .vertices)) (now (c .before .before .before .before .before .before .before .before .before .before .args .records))) k (omega (arith, c .before .before .before .before .before .before .before .before .before .before .pre .0)))) in sym (any-is (λ x. eqb (getD (c .before .before .before .before .before .count-records .last .0) x 0) 0) (c .before .before .before .before .before .before .before .before .before .before .args .h .«base_vertices») (c .before .before .loop .v) (c .before .loop-test .taken) (eq-eqb _ _ (c .if1 .taken))) ∙ same
+returns c = let same : anyBelow (c .before .before .before .before .before .before .before .before .before .before .args .h .«base_vertices») (λ x. eqb (getD (c .before .before .before .before .before .count-records .last .0) x 0) 0) ≡ unusedVertices (tables (c .before .before .before .before .before .before .before .before .before .before .args .h) (c .before .before .before .before .before .before .before .before .before .before .args .l) (now (c .before .before .before .before .before .before .before .before .before .before .args .base)) (now (c .before .before .before .before .before .before .before .before .before .before .args .grown))) = any-same (c .before .before .before .before .before .before .before .before .before .before .args .h .«base_vertices») (λ x. eqb (getD (c .before .before .before .before .before .count-records .last .0) x 0) 0) (unusedVertex (tables (c .before .before .before .before .before .before .before .before .before .before .args .h) (c .before .before .before .before .before .before .before .before .before .before .args .l) (now (c .before .before .before .before .before .before .before .before .before .before .args .base)) (now (c .before .before .before .before .before .before .before .before .before .before .args .grown)))) (λ k l. rw (c .before .before .before .before .before .count-records .ensures) (unused-is (tables (c .before .before .before .before .before .before .before .before .before .before .args .h) (c .before .before .before .before .before .before .before .before .before .before .args .l) (now (c .before .before .before .before .before .before .before .before .before .before .args .base)) (now (c .before .before .before .before .before .before .before .before .before .before .args .grown))) k (omega (arith, c .before .before .before .before .before .before .before .before .before .before .pre)))) in sym (any-is (λ x. eqb (getD (c .before .before .before .before .before .count-records .last .0) x 0) 0) (c .before .before .before .before .before .before .before .before .before .before .args .h .«base_vertices») (c .before .before .loop .v) (c .before .loop-test .taken) (eq-eqb _ _ (c .if1 .taken))) ∙ same
 
 loop-again : tie.Need-loop-again Inv-loop μ-loop
 loop-again c = (omega arith, any-next (λ x. eqb (getD (c .before .before .before .before .before .count-records .last .0) x 0) 0) (c .before .before .loop .v) (c .before .before .loop .inv .1) (ne-eqb _ _ (c .if1 .left)))
 
 returns-2 : tie.Need-returns-2 Inv-loop μ-loop
 unfolding unusedVertices
-returns-2 c = let same : anyBelow (c .before .before .before .before .before .before .before .before .before .args .h .«base_vertices») (λ x. eqb (getD (c .before .before .before .before .count-records .last .0) x 0) 0) ≡ unusedVertices (tables (c .before .before .before .before .before .before .before .before .before .args .h) (now (c .before .before .before .before .before .before .before .before .before .args .vertices)) (now (c .before .before .before .before .before .before .before .before .before .args .records))) = any-same (c .before .before .before .before .before .before .before .before .before .args .h .«base_vertices») (λ x. eqb (getD (c .before .before .before .before .count-records .last .0) x 0) 0) (unusedVertex (tables (c .before .before .before .before .before .before .before .before .before .args .h) (now (c .before .before .before .before .before .before .before .before .before .args .vertices)) (now (c .before .before .before .before .before .before .before .before .before .args .records)))) (λ k l. rw (c .before .before .before .before .count-records .ensures) (unused-is (tables (c .before .before .before .before .before .before .before .before .before .args .h) (now (c .before .before .before .before .before .before .before .before .before .args .vertices)) (now (c .before .before .before .before .before .before .before .before .before .args .records))) k (omega (arith, c .before .before .before .before .before .before .before .before .before .pre .0)))) in sym (any-end (λ x. eqb (getD (c .before .before .before .before .count-records .last .0) x 0) 0) (c .before .before .before .before .before .before .before .before .before .args .h .«base_vertices») (c .before .loop .v) (c .loop-test .left) (c .before .loop .inv .0) (c .before .loop .inv .1)) ∙ same
+returns-2 c = let same : anyBelow (c .before .before .before .before .before .before .before .before .before .args .h .«base_vertices») (λ x. eqb (getD (c .before .before .before .before .count-records .last .0) x 0) 0) ≡ unusedVertices (tables (c .before .before .before .before .before .before .before .before .before .args .h) (c .before .before .before .before .before .before .before .before .before .args .l) (now (c .before .before .before .before .before .before .before .before .before .args .base)) (now (c .before .before .before .before .before .before .before .before .before .args .grown))) = any-same (c .before .before .before .before .before .before .before .before .before .args .h .«base_vertices») (λ x. eqb (getD (c .before .before .before .before .count-records .last .0) x 0) 0) (unusedVertex (tables (c .before .before .before .before .before .before .before .before .before .args .h) (c .before .before .before .before .before .before .before .before .before .args .l) (now (c .before .before .before .before .before .before .before .before .before .args .base)) (now (c .before .before .before .before .before .before .before .before .before .args .grown)))) (λ k l. rw (c .before .before .before .before .count-records .ensures) (unused-is (tables (c .before .before .before .before .before .before .before .before .before .args .h) (c .before .before .before .before .before .before .before .before .before .args .l) (now (c .before .before .before .before .before .before .before .before .before .args .base)) (now (c .before .before .before .before .before .before .before .before .before .args .grown))) k (omega (arith, c .before .before .before .before .before .before .before .before .before .pre)))) in sym (any-end (λ x. eqb (getD (c .before .before .before .before .count-records .last .0) x 0) 0) (c .before .before .before .before .before .before .before .before .before .args .h .«base_vertices») (c .before .loop .v) (c .loop-test .left) (c .before .loop .inv .0) (c .before .loop .inv .1)) ∙ same
 
 pub unused-by-table-spec : {M : Type 1} → statement M
 unused-by-table-spec = tie.close (tie.spec Inv-loop μ-loop (λ c. search needs) (λ c. search needs) count-records-requires (λ c. search needs) loop-holds mul-if1 array-read-if1 returns (λ c. search needs) (λ c. search needs) loop-again returns-2)

@@ -2,11 +2,12 @@
 use lib.IntN.{ℤ, natAbs, _*ℤ_}
 use Prim.Native.Nat.{_*_, _^_, _≤_}
 use Rattle.grid_volume.specs.Exact.{Holds, readBack, passed, sum, difference, product, fits, stored}
+use Rattle.grid.specs.Places.{greatestPlace}
 use Rattle.grid_volume.proofs.row_sum.Statement.{statement}
 use Rattle.grid_volume.proofs.row_sum.Tie as tie
 
-scaled : (a x : ℤ) → natAbs a ≤ 65535 → natAbs x ≤ 2 * 65535 ^ 2 → Holds (2 * 65535 ^ 3) (a *ℤ x) (readBack a *ℤ readBack x)
-scaled a x h k = product (passed 65535 a h tt) (passed (2 * 65535 ^ 2) x k tt)
+scaled : (a x : ℤ) → natAbs a ≤ greatestPlace → natAbs x ≤ 2 * greatestPlace ^ 2 → Holds (2 * greatestPlace ^ 3) (a *ℤ x) (readBack a *ℤ readBack x)
+scaled a x h k = product (passed greatestPlace a h tt) (passed (2 * greatestPlace ^ 2) x k tt)
 
 mul-result : tie.Need-mul-result
 mul-result c = fits (scaled (c .args .a) (c .args .x) (c .pre .0 .0) (c .pre .1 .0)) tt

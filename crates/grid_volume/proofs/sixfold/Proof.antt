@@ -7,12 +7,13 @@ use borrow.Author.Needs.{needs}
 use Rattle.grid_volume.specs.Volume.{determinantOf, differencesOf, sixfoldOf}
 use Rattle.grid_volume.specs.VolumeLaws.{rows-within, determinant-within}
 use Rattle.grid_volume.specs.Exact.{bounded, returned, itself, stored}
+use Rattle.grid.specs.Places.{greatestPlace}
 use Rattle.grid_volume.proofs.sixfold.Statement.{statement}
 use Rattle.grid_volume.proofs.sixfold.Tie as tie
 
 determinant-requires : tie.Need-determinant-requires
 determinant-requires c κs =
-    rows-within 65535 (c .before .before .difference .result) (c .before .difference2 .result) (c .difference3 .result)
+    rows-within greatestPlace (c .before .before .difference .result) (c .before .difference2 .result) (c .difference3 .result)
     (c .before .before .difference .ensures .small) (c .before .difference2 .ensures .small) (c .difference3 .ensures .small)
 
 absolute-requires : tie.Need-absolute-requires
@@ -20,7 +21,7 @@ absolute-requires c κs =
     let third = c .before in
     let m : List (List ℤ) = third .before .before .difference .result ∷ third .before .difference2 .result ∷ third .difference3 .result ∷ [] in
     bounded (stored (returned (c .determinant .ensures)
-    (itself (6 * 65535 ^ 3) (determinantOf m) (determinant-within m (determinant-requires third κs)))) tt)
+    (itself (6 * greatestPlace ^ 3) (determinantOf m) (determinant-within m (determinant-requires third κs)))) tt)
 
 returns : tie.Need-returns
 unfolding sixfoldOf differencesOf
@@ -29,7 +30,7 @@ returns c =
     let m : List (List ℤ) = third .before .before .difference .result ∷ third .before .difference2 .result ∷ third .difference3 .result ∷ [] in
     c .absolute .ensures
     ∙ ap natAbs (stored (returned (c .before .determinant .ensures)
-    (itself (6 * 65535 ^ 3) (determinantOf m) (determinant-within m (determinant-requires third tt)))) tt .is)
+    (itself (6 * greatestPlace ^ 3) (determinantOf m) (determinant-within m (determinant-requires third tt)))) tt .is)
     ∙ (λ i. natAbs (determinantOf (third .before .before .difference .ensures .is i ∷ third .before .difference2 .ensures .is i ∷ third .difference3 .ensures .is i ∷ [])))
 
 pub sixfold-spec : {M : Type 1} → statement M

@@ -1,4 +1,4 @@
--- `stored_encoded::record_bytes` meets its contract: with what the call ensures the definition computes to these bytes.
+-- `stored_encoded::record_bytes` meets its contract: with what the calls ensure the definition computes to these bytes.
 use borrow.Author.Needs.{needs}
 use Rattle.laws.specs.Numbers.{numberBytes}
 use Rattle.stored.specs.Layout.{recordBytes}
@@ -7,29 +7,7 @@ use Rattle.stored_encoded.proofs.record_bytes.Tie as tie
 
 returns : tie.Need-returns
 unfolding recordBytes numberBytes
-returns c = rw (c .number-bytes .ensures)
+returns c = rw (c .number-bytes .ensures, ← c .before .before .before .stored-or-none .ensures)
 
 pub record-bytes-spec : {M : Type 1} → statement M
-record-bytes-spec =
-    tie.close
-    (tie.spec
-    (λ c. search needs)
-    (λ c. search needs)
-    (λ c. search needs)
-    (λ c. search needs)
-    (λ c κs. search needs)
-    (λ c. search needs)
-    (λ c. search needs)
-    (λ c. search needs)
-    (λ c. search needs)
-    (λ c. search needs)
-    (λ c. search needs)
-    (λ c. search needs)
-    (λ c. search needs)
-    (λ c. search needs)
-    (λ c. search needs)
-    (λ c. search needs)
-    (λ c. search needs)
-    (λ c. search needs)
-    (λ c. search needs)
-    returns)
+record-bytes-spec = tie.close (tie.spec (λ c κs. search needs) (λ c. search needs) (λ c. search needs) (λ c. search needs) (λ c. search needs) (λ c κs. search needs) (λ c. search needs) (λ c. search needs) (λ c. search needs) (λ c. search needs) (λ c. search needs) (λ c. search needs) (λ c. search needs) (λ c. search needs) (λ c. search needs) (λ c. search needs) (λ c. search needs) (λ c. search needs) (λ c. search needs) (λ c. search needs) returns)

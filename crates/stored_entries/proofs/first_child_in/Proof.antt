@@ -6,7 +6,7 @@ use Rattle.stored_entries.proofs.first_child_in.Tie as tie
 
 returns : tie.Need-returns
 unfolding recordIn recordFrom
-returns c = rw (c .two .ensures .0, c .before .entry .ensures)
+returns c = rw (c .number-or-none .ensures, c .before .held .ensures)
 
 pub first-child-in-spec : {M : Type 1} → statement M
 first-child-in-spec = tie.close (tie.spec (λ c κs. search needs) (λ c κs. search needs) returns)

@@ -6,7 +6,7 @@ use Rattle.stored_entries.proofs.parents_in.Tie as tie
 
 returns : tie.Need-returns
 unfolding vertexIn vertexFrom
-returns c = rw (c .before .two .ensures .0, c .two2 .ensures .0, c .before .before .entry .ensures)
+returns c = rw (c .before .number-or-none .ensures, c .number-or-none2 .ensures, c .before .before .held .ensures)
 
 pub parents-in-spec : {M : Type 1} → statement M
 parents-in-spec = tie.close (tie.spec (λ c κs. search needs) (λ c κs. search needs) (λ c κs. search needs) returns)

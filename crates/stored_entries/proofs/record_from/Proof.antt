@@ -6,7 +6,7 @@ use Rattle.stored_entries.proofs.record_from.Tie as tie
 
 returns : tie.Need-returns
 unfolding recordFrom
-returns c = rw (c .before .before .before .before .before .corners-from .ensures, c .before .before .before .before .byte .ensures, c .before .before .before .marks-from .ensures, c .before .before .byte2 .ensures, c .before .byte3 .ensures, c .two .ensures .0)
+returns c = rw (c .before .before .before .before .before .corners-from .ensures, c .before .before .before .before .byte .ensures, c .before .before .before .marks-from .ensures, c .before .before .byte2 .ensures, c .before .byte3 .ensures, c .number-or-none .ensures)
 
 pub record-from-spec : {M : Type 1} → statement M
 record-from-spec =

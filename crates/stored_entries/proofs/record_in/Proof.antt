@@ -6,7 +6,7 @@ use Rattle.stored_entries.proofs.record_in.Tie as tie
 
 returns : tie.Need-returns
 unfolding recordIn
-returns c = rw (c .record-from .ensures, c .before .entry .ensures)
+returns c = rw (c .record-from .ensures, c .before .held .ensures)
 
 pub record-in-spec : {M : Type 1} → statement M
 record-in-spec = tie.close (tie.spec (λ c κs. search needs) (λ c κs. search needs) returns)

@@ -6,7 +6,7 @@ use Rattle.stored_entries.proofs.vertex_from.Tie as tie
 
 returns : tie.Need-returns
 unfolding vertexFrom
-returns c = rw (c .before .before .before .before .place .ensures, c .before .before .before .place2 .ensures, c .before .before .place3 .ensures, c .before .two .ensures .0, c .two2 .ensures .0)
+returns c = rw (c .before .before .before .before .place .ensures, c .before .before .before .place2 .ensures, c .before .before .place3 .ensures, c .before .number-or-none .ensures, c .number-or-none2 .ensures)
 
 pub vertex-from-spec : {M : Type 1} → statement M
 vertex-from-spec =

@@ -6,7 +6,7 @@ use Rattle.stored_entries.proofs.vertex_in.Tie as tie
 
 returns : tie.Need-returns
 unfolding vertexIn
-returns c = rw (c .vertex-from .ensures, c .before .entry .ensures)
+returns c = rw (c .vertex-from .ensures, c .before .held .ensures)
 
 pub vertex-in-spec : {M : Type 1} → statement M
 vertex-in-spec = tie.close (tie.spec (λ c κs. search needs) (λ c κs. search needs) returns)
