@@ -7,11 +7,6 @@ use native.Mathlib.Nat.{le-refl, eq-or-lt-of-le, le-of-suc-le-suc, not-suc-le-ze
 use native.Mathlib.Omega.{arith}
 use Rattle.laws.specs.Below.{either, anyBelow, any-is, any-where, any-fails-at, firstBelow, first-no, first-where}
 
--- The first number below a bound is at most the bound.
-pub first-at-most : (P : ℕ → Bool) (n : ℕ) → firstBelow n P ≤ n
-first-at-most P n =
-    ⊎-elim (λ t. let l = first-where P n t .0 in omega arith) (λ f. omega (arith, first-no P n f)) (either (anyBelow n P))
-
 -- e is one of the numbers, and none of them comes before it.
 pub record FirstOf (n : ℕ) (among : ℕ → Bool) (before : ℕ → ℕ → Bool) (e : ℕ) : Type 0 where
   pub there : e < n

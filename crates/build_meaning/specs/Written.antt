@@ -7,7 +7,7 @@ use Prim.Native.Nat.{ℕ, zero, suc, _+_, _*_, _/_, _≤_, _<_}
 use native.Mathlib.Omega.{arith}
 use lib.ListN.{length, getD}
 use lib.IntN.{ℤ, pos}
-use Rattle.laws.specs.Below.{list-length, list-at}
+use Rattle.laws.specs.Below.{first-at-most, list-length, list-at}
 use Rattle.laws.specs.Lists.{bytes-none, bytes-cons}
 use Rattle.piece_edges.specs.Edges.{onFace}
 use Rattle.piece.specs.declared.Piece.{Piece}
@@ -17,7 +17,6 @@ use Rattle.stored.specs.Meshes.{mesh-header, mesh-vertex, mesh-record, mesh-len
 use Rattle.check_refusals.specs.Tables.{Tables, tablesOf}
 use Rattle.build_marks.specs.Marking.{placeFor, plainPlace, plainVertex, plainPiece, firstRanked, markedPiece, plainRecord}
 use Rattle.build_service.specs.Build.{plainHeader, plainMesh, plainBytes}
-use Rattle.build_meaning.specs.First.{first-at-most}
 
 -- The job is a u32, every coordinate's place is a u16, as that of an i16 is, and the corners are u16.
 pub record Given (job : ℕ) (coordinates : List ℤ) (corners : List ℕ) : Type 0 where

@@ -298,6 +298,11 @@ module _ (P : ℕ → Bool) where
 
 -- ---- lists by their elements
 
+-- The first number below a bound is at most the bound.
+pub first-at-most : (P : ℕ → Bool) (n : ℕ) → firstBelow n P ≤ n
+first-at-most P n =
+    ⊎-elim (λ t. let l = first-where P n t .0 in omega arith) (λ f. omega (arith, first-no P n f)) (either (anyBelow n P))
+
 -- The list of f's values at the numbers below n.
 unfoldable pub listBelow {ℓ} : {A : Type ℓ} → ℕ → (ℕ → A) → List A
 unfolding foldBelow

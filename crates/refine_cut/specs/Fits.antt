@@ -1,0 +1,101 @@
+-- What a cut writes fits its stored widths, where what it was read from does.
+use mathlib.Core.Path.{_≡_, refl, sym, _∙_}
+use mathlib.Core.Bool.{Bool, true, false, cond}
+use mathlib.Core.Logic.{inl, inr, ⊎-elim}
+use mathlib.Core.List.{List}
+use Prim.Native.Nat.{ℕ, _<_, _≤_}
+use native.Mathlib.Decide.{ℕ-discrete}
+use native.Mathlib.Omega.{arith}
+use lib.ListN.{length, getD, set, length-set, List·getD-eq-default}
+use lib.Seq.{getD-set-same, getD-set-other, set-out}
+use lib.Dec.{eqb, ltb}
+use borrow.Author.Tests.{ltb-true, ltb-false}
+use Rattle.laws.specs.Below.{either, bit, bit-small, first-at-most}
+use Rattle.laws.specs.Lists.{bytes-none, bytes-cons}
+use Rattle.piece.specs.declared.Ends.{Ends}
+use Rattle.piece_edges.specs.Edges.{joins, edgeBetween, opposite, oppositeOn, otherEnd}
+use Rattle.piece.specs.Shape.{Shape, shapeOf, mark, setP, unsetP, slotA, slotB}
+use Rattle.piece_edges.specs.Edges.{sharedSlot}
+use Rattle.piece_cut.specs.Cut.{newMark, cutMark, childFlag, childMark, childShape, childOf, cutOf}
+use Rattle.grid.specs.Places.{halfwayOf}
+use Rattle.stored.specs.declared.Vertex.{Vertex}
+use Rattle.stored.specs.declared.Record.{Record}
+use Rattle.stored.specs.Layout.{storedNone}
+use Rattle.stored.specs.Fitting.{U16, OrNone, VertexFits, RecordFits}
+use Rattle.refine_cut.specs.Cut.{midpointOf, cutRecord, leafRecord}
+
+-- The record cut: only its first child is another.
+pub cut-record-fits : (r : Record) (c : ℕ) → RecordFits r → OrNone c → RecordFits (cutRecord (r .piece) c)
+cut-record-fits r c f h =
+    record {
+      fourCorners = f .fourCorners;
+      corners = f .corners;
+      edge = f .edge;
+      fourMarks = f .fourMarks;
+      marks = f .marks;
+      flag = f .flag;
+      generation = f .generation;
+      firstChild = h;
+    }
+
+-- One corner is another, or none is.
+set-fits : (l : List ℕ) (k w : ℕ) → ((j : ℕ) → U16 (getD l j 0)) → U16 w → (j : ℕ) → U16 (getD (set l k w) j 0)
+set-fits l k w f h j =
+    ⊎-elim
+    (λ t. elim (ℕ-discrete j k) [
+      | yes e ↦ rw (e, getD-set-same l k w 0 (ltb-true k (length l) t)) h
+      | no ne ↦ rw (getD-set-other l k j w 0 ne) (f j)
+    ])
+    (λ g. rw (set-out l k w (ltb-false k (length l) g)) (f j))
+    (either (ltb k (length l)))
+
+-- A child's marks are edge codes, or its parent's mark.
+picked : (b : Bool) {x y : ℕ} → x < 256 → y < 256 → cond b x y < 256
+picked true hx hy = hx
+picked false hx hy = hy
+
+code-small : (i k : ℕ) → oppositeOn i k < 256
+unfolding oppositeOn
+code-small i k = omega (arith, first-at-most (opposite i k) 6)
+
+new-small : (s : Shape) (k : ℕ) → newMark s k < 256
+unfolding newMark edgeBetween
+new-small s k =
+    picked (setP s) (omega (arith, first-at-most (joins k (sharedSlot (mark s (slotB s)) (mark s (slotA s)))) 6)) (code-small (otherEnd (s .edge) k) k)
+
+mark-small : (s : Shape) (k i : ℕ) → mark s k < 256 → childMark s k i < 256
+unfolding childMark
+mark-small s k i h = picked (eqb i k) h (picked (eqb i (otherEnd (s .edge) k)) (new-small s k) (code-small i k))
+
+pub child-fits : (r : Record) → RecordFits r → (w k : ℕ) → U16 w → RecordFits (leafRecord (childOf (r .piece) w k))
+unfolding childOf childShape childFlag
+child-fits r f w k h =
+    let s = shapeOf (r .piece) in
+    let inherited = f .marks .byte k in
+    record {
+      fourCorners = length-set (r .piece .corners) k w ∙ f .fourCorners;
+      corners = set-fits (r .piece .corners) k w (f .corners) h;
+      edge = inherited;
+      fourMarks = refl;
+      marks = bytes-cons (mark-small s k 0 inherited) (bytes-cons (mark-small s k 1 inherited) (bytes-cons (mark-small s k 2 inherited) (bytes-cons (mark-small s k 3 inherited) bytes-none)));
+      flag = omega (arith, bit-small (unsetP s));
+      generation = omega arith;
+      firstChild = inl refl;
+    }
+
+pub children-fit : (r : Record) → RecordFits r → (w : ℕ) → U16 w → RecordFits (leafRecord (cutOf (r .piece) w .first)) × RecordFits (leafRecord (cutOf (r .piece) w .second))
+unfolding cutOf
+children-fit r f w h = (child-fits r f w _ h, child-fits r f w _ h)
+
+-- The midpoint: half the sum of two places is a place.
+pub midpoint-fits : (vertexAt : ℕ → Vertex) (ends : Ends) → VertexFits (vertexAt (ends .lower)) → VertexFits (vertexAt (ends .higher)) →
+    ends .lower < storedNone → ends .higher < storedNone → VertexFits (midpointOf vertexAt ends)
+unfolding midpointOf halfwayOf
+midpoint-fits vertexAt ends a b lower higher =
+    let ax = a .x in
+    let ay = a .y in
+    let az = a .z in
+    let bx = b .x in
+    let by = b .y in
+    let bz = b .z in
+    record { x = omega arith; y = omega arith; z = omega arith; p = inr lower; q = inr higher }

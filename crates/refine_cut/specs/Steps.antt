@@ -1,0 +1,108 @@
+-- The cut in two slices, step by step: from what each call leaves to what the definition says.
+use mathlib.Core.Path.{_≡_, refl, sym, ap, _∙_}
+use mathlib.Core.Bool.{Bool, true, false, cond, _&&_}
+use mathlib.Core.Logic.{_≢_}
+use mathlib.Core.List.{List}
+use Prim.Native.Nat.{ℕ, _+_, _≤_, _<_}
+use lib.Dec.{eqb, ltb}
+use borrow.Author.Tests.{eq-eqb, ne-eqb, lt-ltb, le-ltb}
+use Rattle.laws.specs.Below.{and-false}
+use Rattle.piece.specs.declared.Ends.{Ends}
+use Rattle.piece_cut.specs.declared.Children.{Children}
+use Rattle.piece_cut.specs.Cut.{cutOf}
+use Rattle.stored.specs.declared.Layout.{Layout}
+use Rattle.stored.specs.declared.Header.{Header}
+use Rattle.stored.specs.declared.Vertex.{Vertex}
+use Rattle.stored.specs.declared.Record.{Record}
+use Rattle.stored.specs.Layout.{baseInto, grownInto, vertexBytes, recordBytes, vertexIn, recordIn}
+use Rattle.check_refusals.specs.Tables.{tables, vertexWith, refinementEnds}
+use Rattle.refine_cut.specs.Cut.{midpointOf, oneVertexMore, twoRecordsMore, cutRecord, leafRecord}
+use Rattle.refine_cut.specs.Slices.{Slices, slices, vertexPut, recordPut, headed, midpointPut, childrenPut, hasRoom, cutPut}
+
+-- ---- the midpoint
+
+module _ (l : Layout) (h : Header) (base grown : List ℕ) (ends : Ends) (w : ℕ) where
+  pub midpoint-there : w ≢ h .vertices → slices h base grown ≡ midpointPut l (slices h base grown) ends w
+  unfolding midpointPut
+  midpoint-there ne = rw (ne-eqb w (h .vertices) ne)
+
+  pub midpoint-appended : w ≡ h .vertices → (v : Vertex) → v ≡ midpointOf (vertexIn l base grown) ends → (base′ grown′ : List ℕ) →
+      base′ ≡ baseInto (l .format .«vertex_width») (l .vertices) base (h .vertices) (vertexBytes v) →
+      grown′ ≡ grownInto (l .format .«vertex_width») (l .vertices) grown (h .vertices) (vertexBytes v) →
+      slices (oneVertexMore h) base′ grown′ ≡ midpointPut l (slices h base grown) ends w
+  unfolding midpointPut vertexPut
+  midpoint-appended e v is base′ grown′ b g =
+      rw (eq-eqb w (h .vertices) e)
+      (λ k.
+      slices (oneVertexMore h)
+      ((b ∙ ap (λ (x : Vertex). baseInto (l .format .«vertex_width») (l .vertices) base (h .vertices) (vertexBytes x)) is) k)
+      ((g ∙ ap (λ (x : Vertex). grownInto (l .format .«vertex_width») (l .vertices) grown (h .vertices) (vertexBytes x)) is) k))
+
+  -- No record is appended with it.
+  pub midpoint-records : midpointPut l (slices h base grown) ends w .header .records ≡ h .records
+  unfolding midpointPut
+  midpoint-records = go (eqb w (h .vertices)) (vertexPut l (slices h base grown) (h .vertices) (midpointOf (vertexIn l base grown) ends))
+    where
+      go : (b : Bool) (t : Slices) → cond b (headed (oneVertexMore h) t) (slices h base grown) .header .records ≡ h .records
+      go true t = refl
+      go false t = refl
+
+-- ---- the children
+
+-- One record written, of slices that are s.
+pub record-written : (l : Layout) (h : Header) (s : Slices) (base grown base′ grown′ : List ℕ) (i : ℕ) (r r′ : Record) → slices h base grown ≡ s → r ≡ r′ →
+    base′ ≡ baseInto (l .format .«record_width») (l .records) base i (recordBytes r) →
+    grown′ ≡ grownInto (l .format .«record_width») (l .records) grown i (recordBytes r) →
+    slices h base′ grown′ ≡ recordPut l s i r′
+unfolding recordPut
+record-written l h s base grown base′ grown′ i r r′ e is b g =
+    (λ k. slices h (b k) (g k))
+    ∙ (λ k. record {
+      header = e k .header;
+      base = baseInto (l .format .«record_width») (l .records) (e k .base) i (recordBytes (is k));
+      grown = grownInto (l .format .«record_width») (l .records) (e k .grown) i (recordBytes (is k));
+    })
+
+module _ (l : Layout) (h : Header) (base grown : List ℕ) (n : ℕ) (r : Record) (w : ℕ) where
+  pub children-written : (two : Children) → two ≡ cutOf (r .piece) w → (base₁ grown₁ base₂ grown₂ base₃ grown₃ : List ℕ) →
+      slices h base₁ grown₁ ≡ recordPut l (slices h base grown) n (cutRecord (r .piece) (h .records)) →
+      slices h base₂ grown₂ ≡ recordPut l (slices h base₁ grown₁) (h .records) (leafRecord (two .first)) →
+      slices h base₃ grown₃ ≡ recordPut l (slices h base₂ grown₂) (h .records + 1) (leafRecord (two .second)) →
+      slices (twoRecordsMore h) base₃ grown₃ ≡ childrenPut l (slices h base grown) n r w
+  unfolding childrenPut
+  children-written two is base₁ grown₁ base₂ grown₂ base₃ grown₃ cut one other =
+      let all : slices h base₃ grown₃ ≡ recordPut l (recordPut l (recordPut l (slices h base grown) n (cutRecord (r .piece) (h .records))) (h .records) (leafRecord (cutOf (r .piece) w .first))) (h .records + 1) (leafRecord (cutOf (r .piece) w .second)) =
+      other
+      ∙ (λ k. recordPut l ((one ∙ (λ j. recordPut l (cut j) (h .records) (leafRecord (is j .first)))) k) (h .records + 1) (leafRecord (is k .second))) in
+      ap (λ (s : Slices). slices (twoRecordsMore h) (s .base) (s .grown)) all
+
+-- ---- the whole cut
+
+module _ (l : Layout) (h : Header) (base grown : List ℕ) (n : ℕ) where
+  -- No room for a vertex, or for two records: nothing is cut.
+  pub no-vertex-room : l .vertices .end ≤ h .vertices → slices h base grown ≡ cutPut l (slices h base grown) n
+  unfolding cutPut hasRoom
+  no-vertex-room e = rw (le-ltb (h .vertices) (l .vertices .end) e)
+
+  pub no-record-room : l .records .end ≤ h .records + 1 → slices h base grown ≡ cutPut l (slices h base grown) n
+  unfolding cutPut hasRoom
+  no-record-room e = rw (le-ltb (h .records + 1) (l .records .end) e, and-false (ltb (h .vertices) (l .vertices .end)))
+
+  pub cut-written : h .vertices < l .vertices .end → h .records + 1 < l .records .end → (r : Record) → r ≡ recordIn l base grown n → (ends : Ends) → ends ≡ refinementEnds (r .piece) →
+      (w : ℕ) → w ≡ vertexWith (tables h l base grown) ends → (s t : Slices) → s ≡ midpointPut l (slices h base grown) ends w → t ≡ childrenPut l s n r w →
+      t ≡ cutPut l (slices h base grown) n
+  unfolding cutPut hasRoom
+  cut-written v e r is ends these w found s t half all =
+      let first : r ≡ recordIn l base grown n = is in
+      rw (lt-ltb (h .vertices) (l .vertices .end) v, lt-ltb (h .records + 1) (l .records .end) e)
+      (all
+      ∙ ap (λ (x : Slices). childrenPut l x n r w) half
+      ∙ go r is ends these w found)
+    where
+      go : (r : Record) → r ≡ recordIn l base grown n → (ends : Ends) → ends ≡ refinementEnds (r .piece) → (w : ℕ) → w ≡ vertexWith (tables h l base grown) ends →
+          childrenPut l (midpointPut l (slices h base grown) ends w) n r w
+          ≡ childrenPut l (midpointPut l (slices h base grown) (refinementEnds (recordIn l base grown n .piece)) (vertexWith (tables h l base grown) (refinementEnds (recordIn l base grown n .piece)))) n (recordIn l base grown n) (vertexWith (tables h l base grown) (refinementEnds (recordIn l base grown n .piece)))
+      go r is ends these w found =
+          ap (λ (x : ℕ). childrenPut l (midpointPut l (slices h base grown) ends x) n r x) found
+          ∙ ap (λ (x : Ends). childrenPut l (midpointPut l (slices h base grown) x (vertexWith (tables h l base grown) x)) n r (vertexWith (tables h l base grown) x)) these
+          ∙ ap (λ (x : Record). childrenPut l (midpointPut l (slices h base grown) (refinementEnds (x .piece)) (vertexWith (tables h l base grown) (refinementEnds (x .piece)))) n x (vertexWith (tables h l base grown) (refinementEnds (x .piece)))) is
