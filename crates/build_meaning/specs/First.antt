@@ -2,10 +2,10 @@
 use mathlib.Core.Path.{_≡_, sym, ap, _∙_}
 use mathlib.Core.Bool.{Bool, true, false, true≢false}
 use mathlib.Core.Logic.{⊎-elim}
-use Prim.Native.Nat.{ℕ, zero, suc, _≤_, _<_}
+use Prim.Native.Nat.{ℕ, zero, suc, _<_}
 use native.Mathlib.Nat.{le-refl, eq-or-lt-of-le, le-of-suc-le-suc, not-suc-le-zero}
 use native.Mathlib.Omega.{arith}
-use Rattle.laws.specs.Below.{either, anyBelow, any-is, any-where, any-fails-at, firstBelow, first-no, first-where}
+use Rattle.laws.specs.Below.{either, anyBelow, any-is, any-where, any-fails-at}
 
 -- e is one of the numbers, and none of them comes before it.
 pub record FirstOf (n : ℕ) (among : ℕ → Bool) (before : ℕ → ℕ → Bool) (e : ℕ) : Type 0 where

@@ -91,7 +91,7 @@ fn judged<'a>(h: Header, l: Layout, base: &'a [u8], grown: &'a [u8]) -> Report
     if check_pieces::bad_base_records(h, l, base, grown) {
         return refused(5);
     }
-    if check_pieces::bad_base_marks(h, l, base, grown) {
+    if check_marks::bad_base_marks(h, l, base, grown) {
         return refused(6);
     }
     if check_faces::bad_base_faces(h, l, base, grown) {

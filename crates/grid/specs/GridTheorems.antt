@@ -5,8 +5,7 @@ use mathlib.Core.Logic.{_↔_}
 use mathlib.Core.Bool.{Bool, true, _&&_, and-eq-true-iff}
 use mathlib.Core.List.{[], _∷_}
 use Prim.Native.Nat.{ℕ, _+_, _-_, _*_, _/_, _%_, _^_, _≤_}
-use native.Mathlib.Nat.{pow-succ', sub-add-cancel}
-use lib.Pow.{pow-add}
+use native.Mathlib.Nat.{pow-succ'}
 use native.Mathlib.Numerals.{add-one}
 use native.Mathlib.Omega.{arith}
 use borrow.Author.Tests.{eqb-true, eq-eqb, leb-true, le-leb}
@@ -14,7 +13,7 @@ use lib.Dec.{eqb, leb}
 use lib.IntN.{ℤ, pos, natAbs, _+ℤ_, _-ℤ_, _*ℤ_, -ℤ-+ℤ-cancel}
 use Rattle.algebra.specs.Solver.{variable, number, plus, minus, times, solve}
 use Rattle.algebra.specs.Absolute.{abs-times}
-use Rattle.algebra.specs.Multiple.{Multiple, multiple-plus, multiple-half, multiple-factor, multiple-of-remainder, remainder-of-multiple}
+use Rattle.algebra.specs.Multiple.{Multiple, multiple-plus, multiple-half, multiple-of-remainder, remainder-of-multiple}
 use Rattle.grid.specs.declared.Place.{Place}
 use Rattle.grid.specs.Places.{Point, coordinate, pointOf, coordinateOnGrid, onGrid, samePlace, isHalfway, halfwayOf}
 use Rattle.grid.specs.Corners.{Midpoint}
@@ -120,13 +119,6 @@ unfolding onGrid
 on-grid-multiples p e =
     let (a, b, c) = three (coordinateOnGrid (p .x)) (coordinateOnGrid (p .y)) (coordinateOnGrid (p .z)) .0 e in
     record { x = on-grid-exactly (p .x) .0 a .0; y = on-grid-exactly (p .y) .0 b .0; z = on-grid-exactly (p .z) .0 c .0 }
-
--- Multiples of a power of 2 are multiples of each smaller power.
-pub multiples-of-less : (i j : ℕ) {p : Point} → i ≤ j → Multiples (2 ^ j) p → Multiples (2 ^ i) p
-multiples-of-less i j h m = record { x = less (m .x); y = less (m .y); z = less (m .z) }
-  where
-    less : {z : ℤ} → Multiple (2 ^ j) z → Multiple (2 ^ i) z
-    less {z} k = multiple-factor (2 ^ (j - i)) (subst (λ (n : ℕ). Multiple n z) (ap (λ (n : ℕ). 2 ^ n) (sym (sub-add-cancel h)) ∙ pow-add 2 (j - i) i) k)
 
 -- the sum of two places whose coordinates are multiples of 2 m is even
 even : (m p q : ℕ) → Multiple (2 * m) (coordinate p) → Multiple (2 * m) (coordinate q) → (p + q) / 2 + (p + q) / 2 ≡ p + q

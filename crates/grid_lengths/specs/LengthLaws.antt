@@ -1,15 +1,14 @@
 -- What code that computes squared lengths on places needs, and how long they can be.
 -- Assumes nothing.
-use mathlib.Core.Path.{_≡_, sym, _∙_, ap, subst⁻¹}
+use mathlib.Core.Path.{_≡_, sym, _∙_, ap}
 use Prim.Native.Nat.{ℕ, _+_, _*_, _-_, _≤_, _<_}
 use native.Mathlib.Nat.{mul-le-mul}
 use native.Mathlib.Omega.{arith}
 use lib.IntN.{ℤ, pos, natAbs, _+ℤ_, _-ℤ_}
 use Rattle.algebra.specs.Absolute.{abs-times, abs-difference-swap, square-is}
-use Rattle.grid.specs.declared.Place.{Place}
-use Rattle.grid.specs.Places.{greatestPlace, Point, coordinate, pointOf}
+use Rattle.grid.specs.Places.{greatestPlace, Point, coordinate}
 use Rattle.grid_lengths.specs.Lengths.{square, squaredLength}
-use Rattle.grid.specs.PlaceLaws.{Held, apart-is, apart-within}
+use Rattle.grid.specs.PlaceLaws.{apart-is}
 
 -- r is the square of how far apart the coordinates of two places are
 pub record SquaredDifference (p q r : ℕ) : Type 0 where
@@ -47,25 +46,3 @@ squared-length-is p q =
     ap natAbs (ap (λ (z : ℤ). z +ℤ square b +ℤ square c) (square-is a)
     ∙ ap (λ (z : ℤ). pos (natAbs (square a)) +ℤ z +ℤ square c) (square-is b)
     ∙ ap (λ (z : ℤ). pos (natAbs (square a)) +ℤ pos (natAbs (square b)) +ℤ z) (square-is c))
-
--- an edge is as long from either end
-pub squared-length-swap : (p q : Point) → squaredLength p q ≡ squaredLength q p
-squared-length-swap p q =
-    squared-length-is p q
-    ∙ (λ i. square-swap (p .x) (q .x) i + square-swap (p .y) (q .y) i + square-swap (p .z) (q .z) i)
-    ∙ sym (squared-length-is q p)
-
--- the squared length between two places is at most three times the square of 65,535
-pub squared-length-within : (a b : Place) → Held a → Held b → squaredLength (pointOf a) (pointOf b) ≤ 3 * (greatestPlace * greatestPlace)
-squared-length-within a b h k =
-    subst⁻¹ (λ (n : ℕ). n ≤ 3 * (greatestPlace * greatestPlace)) (squared-length-is (pointOf a) (pointOf b))
-    (sum (small (a .x) (b .x) (h .x) (k .x)) (small (a .y) (b .y) (h .y) (k .y)) (small (a .z) (b .z) (h .z) (k .z)))
-  where
-    small : (p q : ℕ) → p ≤ greatestPlace → q ≤ greatestPlace → natAbs (square (coordinate p -ℤ coordinate q)) ≤ greatestPlace * greatestPlace
-    small p q h k =
-        let d = coordinate p -ℤ coordinate q in
-        subst⁻¹ (λ (n : ℕ). n ≤ greatestPlace * greatestPlace) (abs-times d d)
-        (mul-le-mul (apart-within greatestPlace p q h k) (apart-within greatestPlace p q h k))
-
-    sum : {l m n : ℕ} → l ≤ greatestPlace * greatestPlace → m ≤ greatestPlace * greatestPlace → n ≤ greatestPlace * greatestPlace → l + m + n ≤ 3 * (greatestPlace * greatestPlace)
-    sum h k l = omega arith

@@ -308,10 +308,6 @@ unfoldable pub listBelow {ℓ} : {A : Type ℓ} → ℕ → (ℕ → A) → List
 unfolding foldBelow
 listBelow n f = foldBelow [] (λ l x. l ++ x ∷ []) n f
 
-pub list-same {ℓ} : {A : Type ℓ} (n : ℕ) (f g : ℕ → A) → ((k : ℕ) → k < n → f k ≡ g k) → listBelow n f ≡ listBelow n g
-unfolding listBelow
-list-same n f g h = fold-same [] (λ l x. l ++ x ∷ []) n f g h
-
 module _ {ℓ} {A : Type ℓ} (f : ℕ → A) where
   pub list-none : listBelow 0 f ≡ []
   unfolding listBelow

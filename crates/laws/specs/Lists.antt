@@ -2,17 +2,16 @@
 -- turn by turn, and lists of bytes.
 use mathlib.Core.Path.{_≡_, refl, sym, ap, _∙_}
 use Prim.Native.Nat.{ℕ, zero, suc, _+_, _-_, _*_, _≤_, _<_, min, suc-le-suc}
-use mathlib.Core.Logic.{⊎-elim, _≢_}
-use native.Mathlib.Nat.{zero-add, mul-le-mul-left, mul-zero, mul-suc, add-suc, suc-add, add-zero, add-comm, le-of-suc-le-suc, not-suc-le-zero, le-refl}
+use mathlib.Core.Logic.{⊎-elim}
+use native.Mathlib.Nat.{zero-add, mul-zero, mul-suc, add-suc, suc-add, add-zero, add-comm, le-of-suc-le-suc, not-suc-le-zero, le-refl}
 use native.Mathlib.Numerals.{add-one}
-use native.Mathlib.Decide.{ℕ-discrete}
 use native.Mathlib.Omega.{arith}
 use mathlib.Core.List.{List, [], _∷_, _++_, append-assoc, append-nil}
-use lib.ListN.{length, getD, take, drop, set, replicate, length-append, length-set, length-replicate, getD-replicate, take-append-drop, drop-of-length-le}
-use lib.Seq.{sets, length-sets, sets-eq, set-out, drop-set-lt, take-set-le, take-add, take-suc, take-all, take-nil, ext-getD, getD-set-same, getD-set-other, drop-cons, drop-drop, drop-at, drop-append-add, length-take-le}
-use lib.Dec.{lit<, leb, ltb}
-use borrow.Author.Tests.{leb-true, leb-false, ltb-true, ltb-false}
-use Rattle.laws.specs.Below.{either, listBelow, list-none, list-suc, list-same, list-length, list-at}
+use lib.ListN.{length, getD, take, drop, set, replicate, length-append, length-replicate, getD-replicate, take-append-drop, drop-of-length-le}
+use lib.Seq.{sets, length-sets, sets-eq, set-out, drop-set-lt, take-set-le, take-add, take-suc, take-all, take-nil, ext-getD, drop-cons, drop-drop, drop-at, drop-append-add, length-take-le}
+use lib.Dec.{lit<, leb}
+use borrow.Author.Tests.{leb-true, leb-false}
+use Rattle.laws.specs.Below.{either, listBelow, list-none, list-suc}
 
 -- ---- parts
 
@@ -218,15 +217,6 @@ pub bytes-drop : (n : ℕ) (l : List ℕ) → Bytes l → Bytes (drop n l)
 bytes-drop zero l p = p
 bytes-drop (suc n) [] p = p
 bytes-drop (suc n) (x ∷ xs) p = bytes-drop n xs (bytes-rest x xs p)
-
-pub bytes-set : (l : List ℕ) (i a : ℕ) → Bytes l → a < 256 → Bytes (set l i a)
-bytes-set [] i a p h = p
-bytes-set (x ∷ xs) zero a p h = bytes-cons h (bytes-rest x xs p)
-bytes-set (x ∷ xs) (suc i) a p h = bytes-cons (p .byte 0) (bytes-set xs i a (bytes-rest x xs p) h)
-
-pub bytes-sets : (l : List ℕ) (at : ℕ) (b : List ℕ) → Bytes l → Bytes b → Bytes (sets l at b)
-bytes-sets l at [] p q = p
-bytes-sets l at (x ∷ xs) p q = bytes-sets (set l at x) (suc at) xs (bytes-set l at x p (q .byte 0)) (bytes-rest x xs q)
 
 pub bytes-joined {ℓ} : {A : Type ℓ} (f : A → List ℕ) (l : List A) → ((k : ℕ) (d : A) → k < length l → Bytes (f (getD l k d))) → Bytes (joined f l)
 unfolding joined

@@ -1,12 +1,12 @@
 -- Little-endian numbers, once over the width in bytes.
-use mathlib.Core.Path.{_≡_, refl, sym, ap, ap₂, _∙_}
+use mathlib.Core.Path.{_≡_, refl, ap, _∙_}
 use Prim.Native.Nat.{ℕ, zero, suc, _+_, _*_, _/_, _%_, _^_, _≤_, _<_}
 use native.Mathlib.Nat.{le-of-lt, lt-of-le-of-lt, mul-le-mul-left, le-div-iff-mul-le, mul-comm, zero-add, add-zero, mul-assoc, pow-suc, pow-succ', mod-lt, mod-add-div, div-lt-iff-lt-mul, le-of-suc-le-suc, not-suc-le-zero, suc-add}
 use native.Mathlib.Numerals.{one-add}
 use native.Mathlib.Omega.{arith}
 use mathlib.Core.List.{List, [], _∷_, _++_}
 use lib.ListN.{length, getD, take, drop}
-use lib.Seq.{drop-drop, getD-drop, getD-take}
+use lib.Seq.{drop-drop, getD-drop}
 use lib.Dec.{lit<}
 use Rattle.laws.specs.Lists.{Bytes, bytes-none, bytes-cons, bytes-drop}
 
@@ -52,15 +52,6 @@ bytes-number (suc w) (x ∷ xs) b h =
     let low : (x + 256 * number w xs) % 256 ≡ x = omega (arith, b .byte 0) in
     let high : (x + 256 * number w xs) / 256 ≡ number w xs = omega (arith, b .byte 0) in
     rw (low, high) (ap (λ (r : List ℕ). x ∷ r) (bytes-number w xs (bytes-drop 1 (x ∷ xs) b) (le-of-suc-le-suc h)))
-
--- A number that lies within the front is a number of the front.
-pub number-take : (w at n : ℕ) (s : List ℕ) → at + w ≤ n → number w (drop at (take n s)) ≡ number w (drop at s)
-unfolding number
-number-take zero at n s h = refl
-number-take (suc w) at n s h =
-    ap₂ (λ (a b : ℕ). a + 256 * b)
-    (getD-drop at (take n s) 0 0 ∙ getD-take n s (at + 0) 0 (omega arith) ∙ sym (getD-drop at s 0 0))
-    (ap (number w) (drop-drop 1 at (take n s)) ∙ number-take w (at + 1) n s (omega arith) ∙ ap (number w) (sym (drop-drop 1 at s)))
 
 -- A wide number is two narrower ones, the lower first.
 pub number-join : (v w : ℕ) (s : List ℕ) → number (v + w) s ≡ number v s + 256 ^ v * number w (drop v s)

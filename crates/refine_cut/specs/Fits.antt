@@ -1,22 +1,22 @@
 -- What a cut writes fits its stored widths, where what it was read from does.
-use mathlib.Core.Path.{_≡_, refl, sym, _∙_}
+use mathlib.Core.Path.{refl, _∙_}
 use mathlib.Core.Bool.{Bool, true, false, cond}
 use mathlib.Core.Logic.{inl, inr, ⊎-elim}
 use mathlib.Core.List.{List}
-use Prim.Native.Nat.{ℕ, _<_, _≤_}
+use Prim.Native.Nat.{ℕ, _<_}
 use native.Mathlib.Decide.{ℕ-discrete}
 use native.Mathlib.Omega.{arith}
-use lib.ListN.{length, getD, set, length-set, List·getD-eq-default}
+use lib.ListN.{length, getD, set, length-set}
 use lib.Seq.{getD-set-same, getD-set-other, set-out}
 use lib.Dec.{eqb, ltb}
 use borrow.Author.Tests.{ltb-true, ltb-false}
-use Rattle.laws.specs.Below.{either, bit, bit-small, first-at-most}
+use Rattle.laws.specs.Below.{either, bit-small, first-at-most}
 use Rattle.laws.specs.Lists.{bytes-none, bytes-cons}
 use Rattle.piece.specs.declared.Ends.{Ends}
 use Rattle.piece_edges.specs.Edges.{joins, edgeBetween, opposite, oppositeOn, otherEnd}
 use Rattle.piece.specs.Shape.{Shape, shapeOf, mark, setP, unsetP, slotA, slotB}
 use Rattle.piece_edges.specs.Edges.{sharedSlot}
-use Rattle.piece_cut.specs.Cut.{newMark, cutMark, childFlag, childMark, childShape, childOf, cutOf}
+use Rattle.piece_cut.specs.Cut.{newMark, childFlag, childMark, childShape, childOf, cutOf}
 use Rattle.grid.specs.Places.{halfwayOf}
 use Rattle.stored.specs.declared.Vertex.{Vertex}
 use Rattle.stored.specs.declared.Record.{Record}

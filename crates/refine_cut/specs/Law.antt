@@ -1,24 +1,22 @@
 -- The cut in two slices is the cut of their tables.
 use mathlib.Core.Path.{_≡_, refl, sym, ap, _∙_, subst}
 use mathlib.Core.Bool.{Bool, true, false, cond}
-use mathlib.Core.Logic.{⊎-elim, inr}
+use mathlib.Core.Logic.{inr}
 use Prim.Native.Nat.{ℕ, _+_, _≤_, _<_}
 use native.Mathlib.Omega.{arith}
-use lib.ListN.{length}
 use lib.Dec.{eqb}
-use borrow.Author.Tests.{lt-ltb, eqb-true}
-use Rattle.laws.specs.Below.{either, putAt, first-at-most}
+use borrow.Author.Tests.{lt-ltb}
+use Rattle.laws.specs.Below.{putAt, first-at-most}
 use Rattle.laws.specs.Lists.{Bytes}
 use Rattle.piece.specs.declared.Ends.{Ends}
 use Rattle.piece_cut.specs.Cut.{cutOf}
 use Rattle.stored.specs.declared.Layout.{Layout}
-use Rattle.stored.specs.declared.Header.{Header}
 use Rattle.stored.specs.declared.Vertex.{Vertex}
 use Rattle.stored.specs.declared.Record.{Record}
 use Rattle.stored.specs.Layout.{storedNone, vertexIn, recordIn}
 use Rattle.stored.specs.Fitting.{U16, VertexFits, RecordFits, vertex-fits, record-fits}
 use Rattle.stored.specs.Tables.{Holds, vertex-put, vertex-put-records, vertex-put-holds, record-put, record-put-vertices, record-put-holds}
-use Rattle.check_refusals.specs.Tables.{Tables, pieceAt, hasParents, vertexWith, refinementEnds}
+use Rattle.check_refusals.specs.Tables.{Tables, hasParents, vertexWith, refinementEnds}
 use Rattle.refine_cut.specs.Cut.{midpointOf, oneVertexMore, twoRecordsMore, withMidpoint, cutRecord, leafRecord, withChildren, cutAt}
 use Rattle.refine_cut.specs.Slices.{Slices, tablesIn, vertexPut, recordPut, headed, midpointPut, childrenPut, hasRoom, cutPut}
 use Rattle.refine_cut.specs.Fits.{cut-record-fits, children-fit, midpoint-fits}

@@ -38,7 +38,24 @@ fn shown(
 
 fn main() {
     let mut out = [0u8; stored::LARGEST];
-    let k_coordinates: [i16; 12] = [0, 0, 0, 64, 0, 0, 64, 64, 0, 64, 64, 64];
+    let k_coordinates: [i16; 12] = [
+        // vertex 0
+        0,
+        0,
+        0,
+        // vertex 1
+        64,
+        0,
+        0,
+        // vertex 2
+        64,
+        64,
+        0,
+        // vertex 3
+        64,
+        64,
+        64,
+    ];
     let k_corners: [u16; 4] = [0, 1, 2, 3];
     shown(
         b"K",
@@ -49,52 +66,66 @@ fn main() {
         stored_headers::mesh_length(4, 1),
     );
     let cube_coordinates: [i16; 24] = [
+        // vertex 0
         0,
         0,
         0,
+        // vertex 1
         64,
         0,
         0,
+        // vertex 2
         0,
         64,
         0,
+        // vertex 3
         64,
         64,
         0,
+        // vertex 4
         0,
         0,
         64,
+        // vertex 5
         64,
         0,
         64,
+        // vertex 6
         0,
         64,
         64,
+        // vertex 7
         64,
         64,
         64,
     ];
     let cube_corners: [u16; 24] = [
+        // piece 0
         0,
         1,
         3,
         7,
+        // piece 1
         0,
         1,
         5,
         7,
+        // piece 2
         0,
         2,
         3,
         7,
+        // piece 3
         0,
         2,
         6,
         7,
+        // piece 4
         0,
         4,
         5,
         7,
+        // piece 5
         0,
         4,
         6,

@@ -5,7 +5,7 @@ use mathlib.Core.Logic.{⊎-elim, _≢_}
 use Prim.Native.Nat.{ℕ, _+_, _-_, _*_, _≤_, _<_}
 use native.Mathlib.Nat.{mul-suc, mul-le-mul-left}
 use native.Mathlib.Omega.{arith}
-use mathlib.Core.List.{List, [], _++_}
+use mathlib.Core.List.{List, []}
 use lib.ListN.{length, take, drop}
 use lib.Seq.{sets, length-sets, drop-drop, take-at}
 use lib.Dec.{leb, ltb}

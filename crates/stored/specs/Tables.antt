@@ -1,7 +1,6 @@
 -- What the writers leave, of tables read as functions of the number: the entry that was written is there, every other entry of both
 -- tables is as it was, and so are the slices' lengths.
-use mathlib.Core.Path.{_≡_, refl, sym, ap, _∙_, subst}
-use mathlib.Core.Logic.{_≢_}
+use mathlib.Core.Path.{_≡_, refl, sym, ap, _∙_}
 use Prim.Native.Nat.{ℕ, _+_, _-_, _*_, _≤_, _<_}
 use native.Mathlib.Nat.{mul-suc, mul-le-mul-left}
 use native.Mathlib.Omega.{arith}
@@ -12,7 +11,7 @@ use Rattle.stored.specs.declared.Table.{Table}
 use Rattle.stored.specs.declared.Layout.{Layout}
 use Rattle.stored.specs.declared.Vertex.{Vertex}
 use Rattle.stored.specs.declared.Record.{Record}
-use Rattle.stored.specs.Layout.{vertexWidth, recordWidth, vertexFrom, vertexBytes, recordFrom, recordBytes, heldIn, baseInto, grownInto, vertexIn, recordIn, working}
+use Rattle.stored.specs.Layout.{vertexWidth, recordWidth, vertexFrom, vertexBytes, recordFrom, recordBytes, baseInto, grownInto, vertexIn, recordIn, working}
 use Rattle.stored.specs.Held.{Room, Before, held-same, held-other, held-before, held-after, base-length, growth-length}
 use Rattle.stored.specs.Fitting.{VertexFits, RecordFits}
 use Rattle.stored.specs.Entries.{vertex-wide, vertex-again, record-wide, record-again}

@@ -2,7 +2,7 @@
 -- Assumes nothing.
 use borrow.Author.Needs.{needs}
 use Prim.Native.Nat.{ℕ, _<_, _≤_}
-use mathlib.Core.Path.{_≡_, sym, _∙_, ap}
+use mathlib.Core.Path.{sym, _∙_, ap}
 use native.Mathlib.Omega.{arith}
 use lib.ListN.{length}
 use denote.Ref.{now}
@@ -11,7 +11,7 @@ use lib.Seq.{sets}
 use Rattle.stored.specs.declared.Layout.{Layout}
 use Rattle.stored.specs.Layout.{assembled}
 use Rattle.stored.specs.Meshes.{assembled-length}
-use Rattle.check_refusals.specs.Tables.{tables, tablesOf}
+use Rattle.check_refusals.specs.Tables.{tables}
 use Rattle.check_refusals.specs.Assembled.{tables-assembled}
 use Rattle.build_service.specs.Storing.{judgedNumber, refused-number, refused-bytes, full-number, full-bytes, stored-number, stored-bytes}
 use Rattle.build_service.proofs.finish.Statement.{statement}

@@ -6,7 +6,7 @@ use mathlib.Core.Path.{sym, _∙_, subst}
 use denote.Ref.{now}
 use Rattle.stored.specs.Layout.{recordIn}
 use Rattle.check_refusals.specs.Refusals.{badTogether}
-use Rattle.check_faces.specs.Sharing.{few-shared}
+use Rattle.check_shared.specs.Sharing.{few-shared}
 use Rattle.check_faces.proofs.bad_together.Statement.{statement}
 use Rattle.check_faces.proofs.bad_together.Tie as tie
 

@@ -1,7 +1,6 @@
 -- `refine_cut::midpoint`: the two ends' places, and halfway between them.
 -- Assumes nothing.
 use borrow.Author.Needs.{needs}
-use mathlib.Core.Path.{ap, _∙_}
 use Rattle.refine_cut.specs.Cut.{midpointOf}
 use Rattle.refine_cut.proofs.midpoint.Statement.{statement}
 use Rattle.refine_cut.proofs.midpoint.Tie as tie

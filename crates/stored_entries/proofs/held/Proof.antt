@@ -1,7 +1,7 @@
 -- `stored_entries::held`: past the end nothing is held; else the number against the count tells the slice.
 -- Assumes nothing.
 use borrow.Author.Needs.{needs}
-use mathlib.Core.Path.{_≡_, sym, ap, _∙_}
+use mathlib.Core.Path.{sym, ap, _∙_}
 use Prim.Native.Nat.{_-_, _*_, _<_}
 use native.Mathlib.Omega.{arith}
 use lib.ListN.{take, drop}

@@ -1,7 +1,6 @@
 -- `stored_written::put_mesh`: the header, the vertices and the records, one after the other.
 -- Assumes nothing.
 use borrow.Author.Needs.{needs}
-use mathlib.Core.Path.{_∙_}
 use denote.Ref.{now}
 use Rattle.stored.specs.Meshes.{assembled-put}
 use Rattle.stored_written.proofs.put_mesh.Statement.{statement}
