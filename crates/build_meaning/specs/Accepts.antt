@@ -1,21 +1,22 @@
 -- Whatever build accepts, check accepts, with as many leaves as pieces and depth 0.
 use mathlib.Core.Path.{_≡_, refl, sym, ap, _∙_, subst}
 use mathlib.Core.Bool.{Bool, true, false, not, cond}
+use mathlib.Core.Logic.{⊎-elim}
 use mathlib.Core.List.{List}
 use Prim.Native.Nat.{ℕ, zero, suc, _/_, _≤_, _<_}
 use native.Mathlib.Nat.{le-refl}
 use native.Mathlib.Omega.{arith}
-use lib.ListN.{length}
+use lib.ListN.{length, getD, List·getD-eq-default}
 use lib.IntN.{ℤ}
 use lib.Dec.{ltb}
-use borrow.Author.Tests.{ltb-false}
-use Rattle.laws.specs.Below.{or-left-false, or-right-false, countBelow, count-none, count-suc, greatestBelow, greatest-none, greatest-suc}
+use borrow.Author.Tests.{ltb-true, ltb-false}
+use Rattle.laws.specs.Below.{either, or-left-false, or-right-false, countBelow, count-none, count-suc, greatestBelow, greatest-none, greatest-suc}
 use Rattle.piece.specs.declared.Piece.{Piece}
 use Rattle.piece.specs.Shape.{shapeOf, Valid}
 use Rattle.stored.specs.declared.Header.{Header}
 use Rattle.stored.specs.declared.Record.{Record}
-use Rattle.stored.specs.Layout.{none, limits}
-use Rattle.stored.specs.Fitting.{MeshFits}
+use Rattle.stored.specs.Layout.{none, storedNone, limits}
+use Rattle.stored.specs.Fitting.{MeshFits, or-none-small}
 use Rattle.stored.specs.Meshes.{mesh-right-length, mesh-right-mark}
 use Rattle.check_refusals.specs.Tables.{Tables, tablesOf, baseVertices, allVertices, baseRecords, allRecords, pieceAt, isLeaf}
 use Rattle.check_refusals.specs.Refusals.{wrongLength, wrongMark, wrongCounts, badVertices, badBaseRecords, badBaseFaces, unusedVertices}
@@ -31,7 +32,7 @@ use Rattle.build_marks.specs.Marking.{plainVertex, plainPiece, markedPiece, pla
 use Rattle.build_service.specs.Build.{notWhole, plainHeader, plainMesh, plainBytes, buildRows, buildNumber}
 use Rattle.build_meaning.specs.Edges.{Different}
 use Rattle.build_meaning.specs.Marks.{marked-valid}
-use Rattle.build_meaning.specs.Written.{Given, CountsFit, written, plain-fits, header-read, vertex-read, record-read}
+use Rattle.build_meaning.specs.Written.{Given, CountsFit, written, corner-small, plain-corner-read, plain-fits, header-read, vertex-read, record-read}
 
 -- What build has tried where it accepts, in its own order.
 pub record Passed (job : ℕ) (coordinates : List ℤ) (corners : List ℕ) (room : ℕ) : Type 0 where
@@ -103,10 +104,6 @@ module _ (job : ℕ) (coordinates : List ℤ) (corners : List ℕ) where
     fit : CountsFit coordinates corners
     fit = counts-fit job coordinates corners room tried
 
-    -- The mesh that build accepts fits its stored form.
-    pub build-fits : MeshFits (plainMesh job coordinates corners)
-    build-fits = plain-fits job coordinates corners g fit
-
     -- Check reads the header that build has written.
     pub build-header : written job coordinates corners .header ≡ plainHeader job coordinates corners
     build-header = header-read job coordinates corners g fit
@@ -124,9 +121,32 @@ module _ (job : ℕ) (coordinates : List ℤ) (corners : List ℕ) where
     pub build-vertex : (v : ℕ) → v < length coordinates / 3 → written job coordinates corners .vertexAt v ≡ plainVertex coordinates v
     build-vertex = vertex-read job coordinates corners g fit
 
+    right-records : RightBaseRecords m
+    right-records = rule5-holds m .0 (tried .base-records)
+
+    -- 5 leaves no corner of 65,535, which would be read as none.
+    named : (n : ℕ) → n < length corners / 4 → (k : ℕ) → getD (plainRecord coordinates corners n .piece .corners) k 0 < storedNone
+    unfolding plainHeader plainRecord markedPiece plainPiece
+    named n l k =
+        ⊎-elim
+        (λ s.
+        let small = ltb-true k 4 s in
+        let below : baseVertices m ≤ storedNone = omega (arith, ap (λ (h : Header). h .«base_vertices») build-header, fit .vertices) in
+        or-none-small (getD (plainRecord coordinates corners n .piece .corners) k 0) (corner-small job coordinates corners g fit n l k)
+        (omega (arith, plain-corner-read job coordinates corners g fit n l k small, right-records n (omega (arith, all-base .1, all-plain)) .in-base k small)))
+        (λ f. past n k (ltb-false k 4 f))
+        (either (ltb k 4))
+      where
+        past : (n k : ℕ) → 4 ≤ k → getD (plainRecord coordinates corners n .piece .corners) k 0 < storedNone
+        past n k h = rw (List·getD-eq-default (plainRecord coordinates corners n .piece .corners) 0 h) (omega arith)
+
+    -- The mesh that build accepts fits its stored form.
+    pub build-fits : MeshFits (plainMesh job coordinates corners)
+    build-fits = plain-fits job coordinates corners g fit named
+
     -- The records that check reads are the plain ones.
     pub build-record : (n : ℕ) → n < length corners / 4 → written job coordinates corners .recordAt n ≡ plainRecord coordinates corners n
-    build-record = record-read job coordinates corners g fit
+    build-record = record-read job coordinates corners g fit named
 
     -- No vertex is made, and no record is cut.
     none-made : (v : ℕ) → Made m v → ⊥
@@ -140,9 +160,6 @@ module _ (job : ℕ) (coordinates : List ℤ) (corners : List ℕ) where
     right-counts : Within limits m × RightCounts m
     unfolding tablesOf
     right-counts = rule3-holds limits s .0 (rw build-header (tried .counts))
-
-    right-records : RightBaseRecords m
-    right-records = rule5-holds m .0 (tried .base-records)
 
     -- 6 follows from 5: build does not have to try it.
     right-marks : RightBaseMarks m
@@ -168,8 +185,8 @@ module _ (job : ℕ) (coordinates : List ℤ) (corners : List ℕ) where
     unfolding wrongLength wrongMark plainBytes
     build-accepted =
         record {
-          length = rule1-holds s .0 (ap not (mesh-right-length (plainMesh job coordinates corners) build-fits));
-          mark = rule2-holds s .0 (ap not (mesh-right-mark (plainMesh job coordinates corners) build-fits));
+          length = rule1-holds s .0 (ap not (mesh-right-length (plainMesh job coordinates corners) (build-fits .counts)));
+          mark = rule2-holds s .0 (ap not (mesh-right-mark (plainMesh job coordinates corners) (build-fits .counts)));
           limits = right-counts .0;
           mesh = record {
             counts = right-counts .1;

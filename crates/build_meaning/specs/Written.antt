@@ -1,8 +1,8 @@
 -- What build writes keeps every number of the plain mesh: each fits its stored width, and check reads it again.
-use mathlib.Core.Path.{_≡_, refl, sym, _∙_, subst}
+use mathlib.Core.Path.{_≡_, refl, sym, ap, _∙_, subst}
 use mathlib.Core.Bool.{Bool, true}
-use mathlib.Core.Logic.{inl}
-use mathlib.Core.List.{List}
+use mathlib.Core.Logic.{inl, inr}
+use mathlib.Core.List.{List, [], _++_, append-nil}
 use Prim.Native.Nat.{ℕ, zero, suc, _+_, _*_, _/_, _≤_, _<_}
 use native.Mathlib.Omega.{arith}
 use lib.ListN.{length, getD}
@@ -11,9 +11,13 @@ use Rattle.laws.specs.Below.{first-at-most, list-length, list-at}
 use Rattle.laws.specs.Lists.{bytes-none, bytes-cons}
 use Rattle.piece_edges.specs.Edges.{onFace}
 use Rattle.piece.specs.declared.Piece.{Piece}
-use Rattle.stored.specs.Layout.{meshLength}
-use Rattle.stored.specs.Fitting.{U16, U32, VertexFits, RecordFits, MeshFits}
-use Rattle.stored.specs.Meshes.{mesh-header, mesh-vertex, mesh-record, mesh-length}
+use Rattle.piece.specs.Ends.{cornerAt}
+use Rattle.stored.specs.declared.Vertex.{Vertex}
+use Rattle.stored.specs.declared.Record.{Record}
+use Rattle.stored.specs.Layout.{storedNone, orNone, meshLength, vertexFrom, vertexBytes, recordFrom, recordBytes}
+use Rattle.stored.specs.Fitting.{U16, U32, VertexFits, RecordFits, Counted, MeshFits}
+use Rattle.stored.specs.Entries.{vertex-again, record-again, corner-read}
+use Rattle.stored.specs.Meshes.{mesh-header, mesh-vertex-bytes, mesh-record-bytes, mesh-length}
 use Rattle.check_refusals.specs.Tables.{Tables, tablesOf}
 use Rattle.build_marks.specs.Marking.{placeFor, plainPlace, plainVertex, plainPiece, firstRanked, markedPiece, plainRecord}
 use Rattle.build_service.specs.Build.{plainHeader, plainMesh, plainBytes}
@@ -50,36 +54,18 @@ module _ (job : ℕ) (coordinates : List ℤ) (corners : List ℕ) (g : Given jo
         q = inl refl;
       }
 
-  corner-fits : (n : ℕ) → n < length corners / 4 → (k : ℕ) → U16 (getD (plainRecord coordinates corners n .piece .corners) k 0)
+  -- A corner is a u16.
+  pub corner-small : (n : ℕ) → n < length corners / 4 → (k : ℕ) → U16 (getD (plainRecord coordinates corners n .piece .corners) k 0)
   unfolding plainRecord markedPiece plainPiece
-  corner-fits n l zero = g .each-corner (4 * n) (omega arith)
-  corner-fits n l (suc zero) = g .each-corner (4 * n + 1) (omega arith)
-  corner-fits n l (suc (suc zero)) = g .each-corner (4 * n + 2) (omega arith)
-  corner-fits n l (suc (suc (suc zero))) = g .each-corner (4 * n + 3) (omega arith)
-  corner-fits n l (suc (suc (suc (suc k)))) = omega arith
+  corner-small n l zero = g .each-corner (4 * n) (omega arith)
+  corner-small n l (suc zero) = g .each-corner (4 * n + 1) (omega arith)
+  corner-small n l (suc (suc zero)) = g .each-corner (4 * n + 2) (omega arith)
+  corner-small n l (suc (suc (suc zero))) = g .each-corner (4 * n + 3) (omega arith)
+  corner-small n l (suc (suc (suc (suc k)))) = omega arith
 
-  record-fits : (n : ℕ) → n < length corners / 4 → RecordFits (plainRecord coordinates corners n)
-  unfolding plainRecord markedPiece plainPiece
-  record-fits n l =
-      let p = plainPiece corners n in
-      let byte : (among : ℕ → Bool) → firstRanked coordinates p among < 256 = ranked-byte coordinates p in
-      record {
-        fourCorners = refl;
-        corners = corner-fits n l;
-        edge = byte (λ e. true);
-        fourMarks = refl;
-        marks = bytes-cons (byte (λ e. onFace e 0)) (bytes-cons (byte (λ e. onFace e 1)) (bytes-cons (byte (λ e. onFace e 2)) (bytes-cons (byte (λ e. onFace e 3)) bytes-none)));
-        flag = omega arith;
-        generation = omega arith;
-        firstChild = inl refl;
-      }
-
-  -- Every number of the plain mesh fits its stored width.
-  pub plain-fits : MeshFits (plainMesh job coordinates corners)
+  plain-counted : Counted (plainMesh job coordinates corners)
   unfolding plainMesh plainHeader
-  plain-fits =
-      let vertices = list-length (plainVertex coordinates) (length coordinates / 3) in
-      let records = list-length (plainRecord coordinates corners) (length corners / 4) in
+  plain-counted =
       record {
         header = record {
           job = g .fits-job;
@@ -89,36 +75,74 @@ module _ (job : ℕ) (coordinates : List ℤ) (corners : List ℕ) (g : Given jo
           baseRecords = c .records;
           records = c .records;
         };
-        vertexCount = vertices;
-        vertices = λ k d l. let b : k < length coordinates / 3 = omega arith in
-            subst VertexFits (sym (list-at (plainVertex coordinates) (length coordinates / 3) k d b)) (vertex-fits k b);
-        recordCount = records;
-        records = λ k d l. let b : k < length corners / 4 = omega arith in
-            subst RecordFits (sym (list-at (plainRecord coordinates corners) (length corners / 4) k d b)) (record-fits k b);
+        vertexCount = list-length (plainVertex coordinates) (length coordinates / 3);
+        recordCount = list-length (plainRecord coordinates corners) (length corners / 4);
       }
 
   -- The bytes are "20 + 10·vertices + 17·records".
   pub plain-length : length (plainBytes job coordinates corners) ≡ meshLength (length coordinates / 3) (length corners / 4)
   unfolding plainBytes plainMesh plainHeader
-  plain-length = mesh-length (plainMesh job coordinates corners) plain-fits
+  plain-length = mesh-length (plainMesh job coordinates corners) plain-counted
 
   -- Check reads the plain header.
   pub header-read : written job coordinates corners .header ≡ plainHeader job coordinates corners
   unfolding tablesOf plainBytes plainMesh
-  header-read = mesh-header (plainMesh job coordinates corners) plain-fits
+  header-read = mesh-header (plainMesh job coordinates corners) plain-counted
 
   -- Check reads the plain vertices.
   pub vertex-read : (v : ℕ) → v < length coordinates / 3 → written job coordinates corners .vertexAt v ≡ plainVertex coordinates v
   unfolding tablesOf plainBytes plainMesh
   vertex-read v l =
       let d = plainVertex coordinates v in
-      mesh-vertex (plainMesh job coordinates corners) plain-fits v d (rw list-length l)
-      ∙ list-at (plainVertex coordinates) (length coordinates / 3) v d l
+      mesh-vertex-bytes (plainMesh job coordinates corners) plain-counted v d (rw list-length l)
+      ∙ ap (λ (x : Vertex). vertexFrom (vertexBytes x)) (list-at (plainVertex coordinates) (length coordinates / 3) v d l)
+      ∙ ap vertexFrom (sym (append-nil (vertexBytes d)))
+      ∙ vertex-again d (vertex-fits v l) []
 
-  -- Check reads the plain records.
-  pub record-read : (n : ℕ) → n < length corners / 4 → written job coordinates corners .recordAt n ≡ plainRecord coordinates corners n
+  -- Check reads the bytes of the plain records, and so their corners, but that 65,535 is read as none.
+  record-bytes-read : (n : ℕ) → n < length corners / 4 → written job coordinates corners .recordAt n ≡ recordFrom (recordBytes (plainRecord coordinates corners n) ++ [])
   unfolding tablesOf plainBytes plainMesh
-  record-read n l =
+  record-bytes-read n l =
       let d = plainRecord coordinates corners n in
-      mesh-record (plainMesh job coordinates corners) plain-fits n d (rw list-length l)
-      ∙ list-at (plainRecord coordinates corners) (length corners / 4) n d l
+      mesh-record-bytes (plainMesh job coordinates corners) plain-counted n d (rw list-length l)
+      ∙ ap (λ (x : Record). recordFrom (recordBytes x)) (list-at (plainRecord coordinates corners) (length corners / 4) n d l)
+      ∙ ap recordFrom (sym (append-nil (recordBytes d)))
+
+  pub plain-corner-read : (n : ℕ) → n < length corners / 4 → (k : ℕ) → k < 4 → cornerAt (written job coordinates corners .recordAt n .piece) k ≡ orNone (getD (plainRecord coordinates corners n .piece .corners) k 0)
+  plain-corner-read n l k s =
+      ap (λ (r : Record). cornerAt (r .piece) k) (record-bytes-read n l) ∙ corner-read (plainRecord coordinates corners n) [] k s (corner-small n l k)
+
+  module _ (named : (n : ℕ) → n < length corners / 4 → (k : ℕ) → getD (plainRecord coordinates corners n .piece .corners) k 0 < storedNone) where
+    record-fits : (n : ℕ) → n < length corners / 4 → RecordFits (plainRecord coordinates corners n)
+    unfolding plainRecord markedPiece plainPiece
+    record-fits n l =
+        let p = plainPiece corners n in
+        let byte : (among : ℕ → Bool) → firstRanked coordinates p among < 256 = ranked-byte coordinates p in
+        record {
+          fourCorners = refl;
+          corners = λ k. inr (named n l k);
+          edge = byte (λ e. true);
+          fourMarks = refl;
+          marks = bytes-cons (byte (λ e. onFace e 0)) (bytes-cons (byte (λ e. onFace e 1)) (bytes-cons (byte (λ e. onFace e 2)) (bytes-cons (byte (λ e. onFace e 3)) bytes-none)));
+          flag = omega arith;
+          generation = omega arith;
+          firstChild = inl refl;
+        }
+
+    -- Every number of the plain mesh fits its stored width.
+    pub plain-fits : MeshFits (plainMesh job coordinates corners)
+    unfolding plainMesh
+    plain-fits =
+        let vertices = list-length (plainVertex coordinates) (length coordinates / 3) in
+        let records = list-length (plainRecord coordinates corners) (length corners / 4) in
+        record {
+          counts = plain-counted;
+          vertices = λ k d l. let b : k < length coordinates / 3 = omega arith in
+              subst VertexFits (sym (list-at (plainVertex coordinates) (length coordinates / 3) k d b)) (vertex-fits k b);
+          records = λ k d l. let b : k < length corners / 4 = omega arith in
+              subst RecordFits (sym (list-at (plainRecord coordinates corners) (length corners / 4) k d b)) (record-fits k b);
+        }
+
+    -- Check reads the plain records.
+    pub record-read : (n : ℕ) → n < length corners / 4 → written job coordinates corners .recordAt n ≡ plainRecord coordinates corners n
+    record-read n l = record-bytes-read n l ∙ record-again (plainRecord coordinates corners n) (record-fits n l) []

@@ -1,7 +1,7 @@
 -- What a cut writes fits its stored widths, where what it was read from does.
 use mathlib.Core.Path.{refl, _∙_}
 use mathlib.Core.Bool.{Bool, true, false, cond}
-use mathlib.Core.Logic.{inl, inr, ⊎-elim}
+use mathlib.Core.Logic.{inl, ⊎-elim}
 use mathlib.Core.List.{List}
 use Prim.Native.Nat.{ℕ, _<_}
 use native.Mathlib.Decide.{ℕ-discrete}
@@ -20,8 +20,7 @@ use Rattle.piece_cut.specs.Cut.{newMark, childFlag, childMark, childShape, chil
 use Rattle.grid.specs.Places.{halfwayOf}
 use Rattle.stored.specs.declared.Vertex.{Vertex}
 use Rattle.stored.specs.declared.Record.{Record}
-use Rattle.stored.specs.Layout.{storedNone}
-use Rattle.stored.specs.Fitting.{U16, OrNone, VertexFits, RecordFits}
+use Rattle.stored.specs.Fitting.{OrNone, VertexFits, RecordFits}
 use Rattle.refine_cut.specs.Cut.{midpointOf, cutRecord, leafRecord}
 
 -- The record cut: only its first child is another.
@@ -39,7 +38,7 @@ cut-record-fits r c f h =
     }
 
 -- One corner is another, or none is.
-set-fits : (l : List ℕ) (k w : ℕ) → ((j : ℕ) → U16 (getD l j 0)) → U16 w → (j : ℕ) → U16 (getD (set l k w) j 0)
+set-fits : (l : List ℕ) (k w : ℕ) → ((j : ℕ) → OrNone (getD l j 0)) → OrNone w → (j : ℕ) → OrNone (getD (set l k w) j 0)
 set-fits l k w f h j =
     ⊎-elim
     (λ t. elim (ℕ-discrete j k) [
@@ -67,7 +66,7 @@ mark-small : (s : Shape) (k i : ℕ) → mark s k < 256 → childMark s k i < 25
 unfolding childMark
 mark-small s k i h = picked (eqb i k) h (picked (eqb i (otherEnd (s .edge) k)) (new-small s k) (code-small i k))
 
-pub child-fits : (r : Record) → RecordFits r → (w k : ℕ) → U16 w → RecordFits (leafRecord (childOf (r .piece) w k))
+pub child-fits : (r : Record) → RecordFits r → (w k : ℕ) → OrNone w → RecordFits (leafRecord (childOf (r .piece) w k))
 unfolding childOf childShape childFlag
 child-fits r f w k h =
     let s = shapeOf (r .piece) in
@@ -83,13 +82,13 @@ child-fits r f w k h =
       firstChild = inl refl;
     }
 
-pub children-fit : (r : Record) → RecordFits r → (w : ℕ) → U16 w → RecordFits (leafRecord (cutOf (r .piece) w .first)) × RecordFits (leafRecord (cutOf (r .piece) w .second))
+pub children-fit : (r : Record) → RecordFits r → (w : ℕ) → OrNone w → RecordFits (leafRecord (cutOf (r .piece) w .first)) × RecordFits (leafRecord (cutOf (r .piece) w .second))
 unfolding cutOf
 children-fit r f w h = (child-fits r f w _ h, child-fits r f w _ h)
 
 -- The midpoint: half the sum of two places is a place.
 pub midpoint-fits : (vertexAt : ℕ → Vertex) (ends : Ends) → VertexFits (vertexAt (ends .lower)) → VertexFits (vertexAt (ends .higher)) →
-    ends .lower < storedNone → ends .higher < storedNone → VertexFits (midpointOf vertexAt ends)
+    OrNone (ends .lower) → OrNone (ends .higher) → VertexFits (midpointOf vertexAt ends)
 unfolding midpointOf halfwayOf
 midpoint-fits vertexAt ends a b lower higher =
     let ax = a .x in
@@ -98,4 +97,4 @@ midpoint-fits vertexAt ends a b lower higher =
     let bx = b .x in
     let by = b .y in
     let bz = b .z in
-    record { x = omega arith; y = omega arith; z = omega arith; p = inr lower; q = inr higher }
+    record { x = omega arith; y = omega arith; z = omega arith; p = lower; q = higher }

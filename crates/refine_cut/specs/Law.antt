@@ -9,12 +9,13 @@ use borrow.Author.Tests.{lt-ltb}
 use Rattle.laws.specs.Below.{putAt, first-at-most}
 use Rattle.laws.specs.Lists.{Bytes}
 use Rattle.piece.specs.declared.Ends.{Ends}
+use Rattle.piece.specs.Ends.{lowerEnd, higherEnd, endsOf}
 use Rattle.piece_cut.specs.Cut.{cutOf}
 use Rattle.stored.specs.declared.Layout.{Layout}
 use Rattle.stored.specs.declared.Vertex.{Vertex}
 use Rattle.stored.specs.declared.Record.{Record}
 use Rattle.stored.specs.Layout.{storedNone, vertexIn, recordIn}
-use Rattle.stored.specs.Fitting.{U16, VertexFits, RecordFits, vertex-fits, record-fits}
+use Rattle.stored.specs.Fitting.{OrNone, VertexFits, RecordFits, vertex-fits, record-fits}
 use Rattle.stored.specs.Tables.{Holds, vertex-put, vertex-put-records, vertex-put-holds, record-put, record-put-vertices, record-put-holds}
 use Rattle.check_refusals.specs.Tables.{Tables, hasParents, vertexWith, refinementEnds}
 use Rattle.refine_cut.specs.Cut.{midpointOf, oneVertexMore, twoRecordsMore, withMidpoint, cutRecord, leafRecord, withChildren, cutAt}
@@ -22,7 +23,7 @@ use Rattle.refine_cut.specs.Slices.{Slices, tablesIn, vertexPut, recordP
 use Rattle.refine_cut.specs.Fits.{cut-record-fits, children-fit, midpoint-fits}
 
 -- What a cut asks of the slices: they hold the layout's tables, which have room for one vertex and two records more and no number that
--- would read as none; record n is there, and the ends of its refinement edge are vertex numbers.
+-- would read as none; and record n is there.
 pub record Ready (l : Layout) (s : Slices) (n : ℕ) : Type 0 where
   pub holds : Holds l (s .base) (s .grown)
   pub base-bytes : Bytes (s .base)
@@ -32,8 +33,6 @@ pub record Ready (l : Layout) (s : Slices) (n : ℕ) : Type 0 where
   pub few-vertices : l .vertices .end ≤ storedNone
   pub few-records : l .records .end ≤ storedNone
   pub there : n < s .header .records
-  pub lower : refinementEnds (recordIn l (s .base) (s .grown) n .piece) .lower < storedNone
-  pub higher : refinementEnds (recordIn l (s .base) (s .grown) n .piece) .higher < storedNone
 
 -- ---- one record written
 
@@ -52,7 +51,7 @@ module _ (l : Layout) (s : Slices) (h : Holds l (s .base) (s .grown)) (i : ℕ) 
 
 -- ---- the two children
 
-module _ (l : Layout) (s : Slices) (h : Holds l (s .base) (s .grown)) (n w : ℕ) (f : RecordFits (recordIn l (s .base) (s .grown) n)) (small : U16 w)
+module _ (l : Layout) (s : Slices) (h : Holds l (s .base) (s .grown)) (n w : ℕ) (f : RecordFits (recordIn l (s .base) (s .grown) n)) (small : OrNone w)
     (room : s .header .records + 1 < l .records .end) (few : l .records .end ≤ storedNone) (there : n < s .header .records) where
   abbrev r : Record
   r = recordIn l (s .base) (s .grown) n
@@ -156,17 +155,20 @@ module _ (l : Layout) (s : Slices) (n : ℕ) (ready : Ready l s n) where
   with-midpoint = midpointPut l s ends-n w-n
 
   half : Midway l s with-midpoint ends-n
+  unfolding endsOf
   half =
+      let stored = record-fits l (s .base) (s .grown) (ready .base-bytes) (ready .grown-bytes) n in
       midway l s (ready .holds) ends-n
       (midpoint-fits (vertexIn l (s .base) (s .grown)) ends-n
       (vertex-fits l (s .base) (s .grown) (ready .base-bytes) (ready .grown-bytes) (ends-n .lower))
       (vertex-fits l (s .base) (s .grown) (ready .base-bytes) (ready .grown-bytes) (ends-n .higher))
-      (ready .lower) (ready .higher))
+      (stored .corners (lowerEnd (record-n .piece) (record-n .piece .edge)))
+      (stored .corners (higherEnd (record-n .piece) (record-n .piece .edge))))
       (ready .vertex-room)
 
-  small : U16 w-n
+  small : OrNone w-n
   unfolding vertexWith
-  small = omega (arith, first-at-most (hasParents (tablesIn l s) ends-n) (s .header .vertices), ready .vertex-room, ready .few-vertices)
+  small = inr (omega (arith, first-at-most (hasParents (tablesIn l s) ends-n) (s .header .vertices), ready .vertex-room, ready .few-vertices))
 
   same-record : recordIn l (with-midpoint .base) (with-midpoint .grown) n ≡ record-n
   same-record = λ k. half .records k n

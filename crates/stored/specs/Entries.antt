@@ -1,7 +1,7 @@
 -- A header, a vertex and a record by themselves: their bytes are as long as the document says and say what was written.
 use mathlib.Core.Path.{_≡_, refl, sym, ap, ap₂, _∙_}
 use mathlib.Core.Bool.{Bool, true, _&&_}
-use Prim.Native.Nat.{ℕ, _+_, _/_, _%_, _≤_, _<_}
+use Prim.Native.Nat.{ℕ, zero, suc, _+_, _/_, _%_, _≤_, _<_}
 use native.Mathlib.Omega.{arith}
 use mathlib.Core.List.{List, [], _∷_, _++_}
 use lib.ListN.{length, getD, take, drop, length-drop}
@@ -15,7 +15,7 @@ use Rattle.stored.specs.declared.Vertex.{Vertex}
 use Rattle.stored.specs.declared.Record.{Record}
 use Rattle.stored.specs.declared.Selection.{Selection}
 use Rattle.stored.specs.Layout.{headerWidth, vertexWidth, recordWidth, orNone, storedOrNone, byteAt, u16At, u32At, u16Bytes, u32Bytes, placeOf, storedOf, marked, markBytes, rightMark, headerOf, headerBytes, vertexFrom, vertexBytes, recordFrom, recordBytes}
-use Rattle.stored.specs.Fitting.{U16, U32, OrNone, HeaderFits, VertexFits, RecordFits, stored-or-none, or-none-stored, stored-number-fits, u16-fits}
+use Rattle.stored.specs.Fitting.{U16, U32, OrNone, HeaderFits, VertexFits, RecordFits, stored-or-none, or-none-stored, stored-number-fits, stored-same, u16-fits}
 use Rattle.stored.specs.Coordinate.{stored-place, place-stored, stored-fits}
 
 -- ---- lengths
@@ -67,7 +67,7 @@ pub record-is-bytes : (r : Record) → RecordFits r → Bytes (recordBytes r)
 unfolding recordBytes
 record-is-bytes r f =
     let c = r .piece .corners in
-    let cornered = with2 (with2 (with2 (bytes-of 2 (getD c 0 0)) (getD c 1 0)) (getD c 2 0)) (getD c 3 0) in
+    let cornered = with2 (with2 (with2 (bytes-of 2 (storedOrNone (getD c 0 0))) (storedOrNone (getD c 1 0))) (storedOrNone (getD c 2 0))) (storedOrNone (getD c 3 0)) in
     let marked = with1 (with1 (with1 (with1 (with1 cornered (f .edge)) (f .marks .byte 0)) (f .marks .byte 1)) (f .marks .byte 2)) (f .marks .byte 3) in
     with2 (with1 (with1 marked (f .flag)) (f .generation)) (storedOrNone (r .«first_child»))
 
@@ -128,10 +128,10 @@ record-again r f rest =
     record {
       piece = record {
         corners =
-            u16-again (getD (r .piece .corners) 0 0) (drop 2 bytes) (f .corners 0) i
-            ∷ u16-again (getD (r .piece .corners) 1 0) (drop 4 bytes) (f .corners 1) i
-            ∷ u16-again (getD (r .piece .corners) 2 0) (drop 6 bytes) (f .corners 2) i
-            ∷ u16-again (getD (r .piece .corners) 3 0) (drop 8 bytes) (f .corners 3) i
+            number-again (getD (r .piece .corners) 0 0) (drop 2 bytes) (f .corners 0) i
+            ∷ number-again (getD (r .piece .corners) 1 0) (drop 4 bytes) (f .corners 1) i
+            ∷ number-again (getD (r .piece .corners) 2 0) (drop 6 bytes) (f .corners 2) i
+            ∷ number-again (getD (r .piece .corners) 3 0) (drop 8 bytes) (f .corners 3) i
             ∷ [];
         edge = r .piece .edge;
         marks =
@@ -152,6 +152,24 @@ record-again r f rest =
       };
       «first_child» = r .«first_child»;
     })
+
+-- A corner that was written is read again, but that 65,535 is read as none.
+pub corner-read : (r : Record) (rest : List ℕ) (k : ℕ) → k < 4 → U16 (getD (r .piece .corners) k 0) → getD (recordFrom (recordBytes r ++ rest) .piece .corners) k 0 ≡ orNone (getD (r .piece .corners) k 0)
+unfolding recordFrom recordBytes numberBytes
+corner-read r rest k l h = at k l h
+  where
+    bytes : List ℕ
+    bytes = recordBytes r ++ rest
+
+    read : (n : ℕ) (more : List ℕ) → U16 n → orNone (number 2 (storedOrNone n % 256 ∷ storedOrNone n / 256 % 256 ∷ more)) ≡ orNone n
+    read n more u = ap orNone (u16-again (storedOrNone n) more (rw (stored-same n u) u) ∙ stored-same n u)
+
+    at : (k : ℕ) → k < 4 → U16 (getD (r .piece .corners) k 0) → getD (recordFrom (recordBytes r ++ rest) .piece .corners) k 0 ≡ orNone (getD (r .piece .corners) k 0)
+    at zero l u = read (getD (r .piece .corners) 0 0) (drop 2 bytes) u
+    at (suc zero) l u = read (getD (r .piece .corners) 1 0) (drop 4 bytes) u
+    at (suc (suc zero)) l u = read (getD (r .piece .corners) 2 0) (drop 6 bytes) u
+    at (suc (suc (suc zero))) l u = read (getD (r .piece .corners) 3 0) (drop 8 bytes) u
+    at (suc (suc (suc (suc k)))) l u = absurd (omega arith)
 
 -- ---- what is read is written again
 
@@ -203,10 +221,10 @@ module _ (s : List ℕ) (b : Bytes s) where
   unfolding recordBytes recordFrom
   record-written-again h =
       rw (
-        u16-written 0 (omega arith),
-        u16-written 2 (omega arith),
-        u16-written 4 (omega arith),
-        u16-written 6 (omega arith),
+        number-written-again 0 (omega arith),
+        number-written-again 2 (omega arith),
+        number-written-again 4 (omega arith),
+        number-written-again 6 (omega arith),
         number-written-again 15 (omega arith),
         take-one 8 s 0 (omega arith),
         take-one 9 s 0 (omega arith),

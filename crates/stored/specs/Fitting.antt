@@ -27,7 +27,7 @@ U16 n = n < 65536
 abbrev pub U32 : ℕ → Type 0
 U32 n = n < 4294967296
 
--- A parent or a first child: none, or a number that is stored as it is.
+-- A vertex or record number: none, or one that is stored as it is.
 abbrev pub OrNone : ℕ → Type 0
 OrNone n = (n ≡ none) ⊎ (n < storedNone)
 
@@ -48,7 +48,7 @@ pub record VertexFits (v : Vertex) : Type 0 where
 
 pub record RecordFits (r : Record) : Type 0 where
   pub fourCorners : length (r .piece .corners) ≡ 4
-  pub corners : (k : ℕ) → U16 (getD (r .piece .corners) k 0)
+  pub corners : (k : ℕ) → OrNone (getD (r .piece .corners) k 0)
   pub edge : r .piece .edge < 256
   pub fourMarks : length (r .piece .marks) ≡ 4
   pub marks : Bytes (r .piece .marks)
@@ -56,12 +56,15 @@ pub record RecordFits (r : Record) : Type 0 where
   pub generation : r .piece .generation < 256
   pub firstChild : OrNone (r .«first_child»)
 
--- A mesh's tables are as long as its header says.
-pub record MeshFits (m : Mesh) : Type 0 where
+-- A mesh's tables are as long as its header says, and the header's numbers fit.
+pub record Counted (m : Mesh) : Type 0 where
   pub header : HeaderFits (m .header)
   pub vertexCount : length (m .vertices) ≡ m .header .vertices
-  pub vertices : (k : ℕ) (d : Vertex) → k < length (m .vertices) → VertexFits (getD (m .vertices) k d)
   pub recordCount : length (m .records) ≡ m .header .records
+
+pub record MeshFits (m : Mesh) : Type 0 where
+  pub counts : Counted m
+  pub vertices : (k : ℕ) (d : Vertex) → k < length (m .vertices) → VertexFits (getD (m .vertices) k d)
   pub records : (k : ℕ) (d : Record) → k < length (m .records) → RecordFits (getD (m .records) k d)
 
 -- A selection's heading, with the record numbers that it is to name.
@@ -89,6 +92,20 @@ stored-or-none n h =
     (λ t. rw t (sym (eqb-true n storedNone t)))
     (λ f. rw (f, ne-eqb n none (λ e. omega arith)))
     (either (eqb n storedNone))
+
+-- what is read as a number was stored as that number
+pub or-none-small : (n : ℕ) → U16 n → orNone n < storedNone → n < storedNone
+unfolding orNone
+or-none-small n u h =
+    ⊎-elim
+    (λ t. let big : none < storedNone = rw t at h in absurd (omega arith))
+    (λ f. omega (arith, eqb-false n storedNone f))
+    (either (eqb n storedNone))
+
+-- a u16 is none of memory's, so it is stored as it is
+pub stored-same : (n : ℕ) → U16 n → storedOrNone n ≡ n
+unfolding storedOrNone
+stored-same n h = rw (ne-eqb n none (λ e. omega arith))
 
 pub or-none-stored : (n : ℕ) → OrNone n → orNone (storedOrNone n) ≡ n
 unfolding orNone storedOrNone
@@ -139,12 +156,12 @@ module _ (s : List ℕ) (b : Bytes s) where
         firstChild = or-none-fits (u16At s 15) (u16-fits 15);
       }
     where
-      corner : (k : ℕ) → U16 (getD (u16At s 0 ∷ u16At s 2 ∷ u16At s 4 ∷ u16At s 6 ∷ []) k 0)
-      corner zero = u16-fits 0
-      corner (suc zero) = u16-fits 2
-      corner (suc (suc zero)) = u16-fits 4
-      corner (suc (suc (suc zero))) = u16-fits 6
-      corner (suc (suc (suc (suc k)))) = omega arith
+      corner : (k : ℕ) → OrNone (getD (orNone (u16At s 0) ∷ orNone (u16At s 2) ∷ orNone (u16At s 4) ∷ orNone (u16At s 6) ∷ []) k 0)
+      corner zero = or-none-fits (u16At s 0) (u16-fits 0)
+      corner (suc zero) = or-none-fits (u16At s 2) (u16-fits 2)
+      corner (suc (suc zero)) = or-none-fits (u16At s 4) (u16-fits 4)
+      corner (suc (suc (suc zero))) = or-none-fits (u16At s 6) (u16-fits 6)
+      corner (suc (suc (suc (suc k)))) = inr (omega arith)
 
 pub held-is-bytes : (w : ℕ) (t : Table) (base grown : List ℕ) (i : ℕ) → Bytes base → Bytes grown → Bytes (heldIn w t base grown i)
 unfolding heldIn
@@ -169,10 +186,12 @@ unfolding meshOf headerOf
 mesh-fits s b =
     let l : Layout = layoutOf (headerOf s) in
     record {
-      header = header-fits s b;
-      vertexCount = list-length (vertexIn l s s) (allVertices s);
+      counts = record {
+        header = header-fits s b;
+        vertexCount = list-length (vertexIn l s s) (allVertices s);
+        recordCount = list-length (recordIn l s s) (allRecords s);
+      };
       vertices = λ k d lt. subst VertexFits (sym (list-at (vertexIn l s s) (allVertices s) k d (below (list-length (vertexIn l s s) (allVertices s)) lt))) (vertex-fits l s s b b k);
-      recordCount = list-length (recordIn l s s) (allRecords s);
       records = λ k d lt. subst RecordFits (sym (list-at (recordIn l s s) (allRecords s) k d (below (list-length (recordIn l s s) (allRecords s)) lt))) (record-fits l s s b b k);
     }
   where

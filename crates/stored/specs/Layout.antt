@@ -48,7 +48,7 @@ storedOf place = (place + 32768) % 65536
 abbrev pub none : ℕ
 none = 4294967295
 
--- "65,535 for both parents", "65,535 if uncut": how none is stored. Any other number is stored as it is.
+-- "65,535 for both parents", "65,535 if uncut": how none is stored. Any other vertex or record number is stored as it is.
 abbrev pub storedNone : ℕ
 storedNone = 65535
 
@@ -157,7 +157,7 @@ unfoldable pub recordFrom : List ℕ → Record
 recordFrom s =
     record {
       piece = record {
-        corners = u16At s 0 ∷ u16At s 2 ∷ u16At s 4 ∷ u16At s 6 ∷ [];
+        corners = orNone (u16At s 0) ∷ orNone (u16At s 2) ∷ orNone (u16At s 4) ∷ orNone (u16At s 6) ∷ [];
         edge = byteAt s 8;
         marks = byteAt s 9 ∷ byteAt s 10 ∷ byteAt s 11 ∷ byteAt s 12 ∷ [];
         flag = byteAt s 13;
@@ -168,10 +168,10 @@ recordFrom s =
 
 unfoldable pub recordBytes : Record → List ℕ
 recordBytes r =
-    u16Bytes (getD (r .piece .corners) 0 0)
-    ++ u16Bytes (getD (r .piece .corners) 1 0)
-    ++ u16Bytes (getD (r .piece .corners) 2 0)
-    ++ u16Bytes (getD (r .piece .corners) 3 0)
+    u16Bytes (storedOrNone (getD (r .piece .corners) 0 0))
+    ++ u16Bytes (storedOrNone (getD (r .piece .corners) 1 0))
+    ++ u16Bytes (storedOrNone (getD (r .piece .corners) 2 0))
+    ++ u16Bytes (storedOrNone (getD (r .piece .corners) 3 0))
     ++ r .piece .edge ∷ []
     ++ getD (r .piece .marks) 0 0 ∷ []
     ++ getD (r .piece .marks) 1 0 ∷ []

@@ -19,22 +19,15 @@ use Rattle.stored.specs.declared.Vertex.{Vertex}
 use Rattle.stored.specs.declared.Record.{Record}
 use Rattle.stored.specs.Layout.{headerWidth, vertexWidth, recordWidth, allVertices, allRecords, rightMark, rightLength, meshLength, headerOf, headerBytes, vertexFrom, vertexBytes, recordFrom, recordBytes, heldIn, vertexIn, recordIn, layoutOf, working, assembled, Mesh, meshOf, meshBytes}
 use Rattle.stored.specs.Held.{held-base, held-growth, held-none}
-use Rattle.stored.specs.Fitting.{HeaderFits, MeshFits}
+use Rattle.stored.specs.Fitting.{HeaderFits, Counted, MeshFits}
 use Rattle.stored.specs.Entries.{header-is-bytes, vertex-is-bytes, record-is-bytes, header-wide, header-again, header-right, header-written-again, vertex-wide, vertex-again, vertex-written-again, record-wide, record-again, record-written-again}
 
 -- ---- from a mesh to its bytes and back
 
-module _ (m : Mesh) (f : MeshFits m) where
+module _ (m : Mesh) (f : Counted m) where
   from-header : meshBytes m ≡ headerBytes (m .header) ++ (joined vertexBytes (m .vertices) ++ joined recordBytes (m .records))
   unfolding meshBytes
   from-header = append-assoc (headerBytes (m .header)) (joined vertexBytes (m .vertices)) (joined recordBytes (m .records))
-
-  pub mesh-is-bytes : Bytes (meshBytes m)
-  unfolding meshBytes
-  mesh-is-bytes =
-      bytes-append (headerBytes (m .header) ++ joined vertexBytes (m .vertices)) (joined recordBytes (m .records))
-      (bytes-append (headerBytes (m .header)) (joined vertexBytes (m .vertices)) (header-is-bytes (m .header)) (bytes-joined vertexBytes (m .vertices) (λ k d l. vertex-is-bytes (getD (m .vertices) k d))))
-      (bytes-joined recordBytes (m .records) (λ k d l. record-is-bytes (getD (m .records) k d) (f .records k d l)))
 
   pub mesh-header : headerOf (meshBytes m) ≡ m .header
   mesh-header =
@@ -94,9 +87,10 @@ module _ (m : Mesh) (f : MeshFits m) where
       ap (λ (n : ℕ). drop (headerWidth + vertexWidth * n) (meshBytes m)) vertex-count
       ∙ drop-at (headerBytes (m .header) ++ joined vertexBytes (m .vertices)) (joined recordBytes (m .records)) (headerWidth + vertexWidth * length (m .vertices)) front-long
 
-  pub mesh-vertex : (k : ℕ) (d : Vertex) → k < length (m .vertices) → vertexIn theLayout (meshBytes m) (meshBytes m) k ≡ getD (m .vertices) k d
+  -- The bytes of each entry are those that were written.
+  pub mesh-vertex-bytes : (k : ℕ) (d : Vertex) → k < length (m .vertices) → vertexIn theLayout (meshBytes m) (meshBytes m) k ≡ vertexFrom (vertexBytes (getD (m .vertices) k d))
   unfolding vertexIn
-  mesh-vertex k d l =
+  mesh-vertex-bytes k d l =
       let s = meshBytes m in
       let x = getD (m .vertices) k d in
       let counted : headerOf s .vertices ≡ m .header .vertices = λ i. mesh-header i .vertices in
@@ -106,13 +100,11 @@ module _ (m : Mesh) (f : MeshFits m) where
       ∙ ap (λ (t : List ℕ). take vertexWidth (drop (vertexWidth * k) t)) mesh-vertices
       ∙ ap (take vertexWidth) (joined-at vertexBytes vertexWidth vertex-wide (m .vertices) (joined recordBytes (m .records)) k d l)
       ∙ take-at (vertexBytes x) _ vertexWidth (vertex-wide x)
-      ∙ sym (append-nil (vertexBytes x))
       )
-      ∙ vertex-again x (f .vertices k d l) []
 
-  pub mesh-record : (k : ℕ) (d : Record) → k < length (m .records) → recordIn theLayout (meshBytes m) (meshBytes m) k ≡ getD (m .records) k d
+  pub mesh-record-bytes : (k : ℕ) (d : Record) → k < length (m .records) → recordIn theLayout (meshBytes m) (meshBytes m) k ≡ recordFrom (recordBytes (getD (m .records) k d))
   unfolding recordIn
-  mesh-record k d l =
+  mesh-record-bytes k d l =
       let s = meshBytes m in
       let x = getD (m .records) k d in
       let counted : headerOf s .records ≡ m .header .records = λ i. mesh-header i .records in
@@ -122,9 +114,25 @@ module _ (m : Mesh) (f : MeshFits m) where
       ∙ ap (λ (t : List ℕ). take recordWidth (drop (recordWidth * k) t)) (mesh-records ∙ sym (append-nil (joined recordBytes (m .records))))
       ∙ ap (take recordWidth) (joined-at recordBytes recordWidth record-wide (m .records) [] k d l)
       ∙ take-at (recordBytes x) _ recordWidth (record-wide x)
-      ∙ sym (append-nil (recordBytes x))
       )
-      ∙ record-again x (f .records k d l) []
+
+module _ (m : Mesh) (f : MeshFits m) where
+  pub mesh-is-bytes : Bytes (meshBytes m)
+  unfolding meshBytes
+  mesh-is-bytes =
+      bytes-append (headerBytes (m .header) ++ joined vertexBytes (m .vertices)) (joined recordBytes (m .records))
+      (bytes-append (headerBytes (m .header)) (joined vertexBytes (m .vertices)) (header-is-bytes (m .header)) (bytes-joined vertexBytes (m .vertices) (λ k d l. vertex-is-bytes (getD (m .vertices) k d))))
+      (bytes-joined recordBytes (m .records) (λ k d l. record-is-bytes (getD (m .records) k d) (f .records k d l)))
+
+  pub mesh-vertex : (k : ℕ) (d : Vertex) → k < length (m .vertices) → vertexIn (theLayout m (f .counts)) (meshBytes m) (meshBytes m) k ≡ getD (m .vertices) k d
+  mesh-vertex k d l =
+      let x = getD (m .vertices) k d in
+      mesh-vertex-bytes m (f .counts) k d l ∙ ap vertexFrom (sym (append-nil (vertexBytes x))) ∙ vertex-again x (f .vertices k d l) []
+
+  pub mesh-record : (k : ℕ) (d : Record) → k < length (m .records) → recordIn (theLayout m (f .counts)) (meshBytes m) (meshBytes m) k ≡ getD (m .records) k d
+  mesh-record k d l =
+      let x = getD (m .records) k d in
+      mesh-record-bytes m (f .counts) k d l ∙ ap recordFrom (sym (append-nil (recordBytes x))) ∙ record-again x (f .records k d l) []
 
   pub mesh-again : meshOf (meshBytes m) ≡ m
   unfolding meshOf
@@ -132,13 +140,13 @@ module _ (m : Mesh) (f : MeshFits m) where
       let s : List ℕ = meshBytes m in
       let v : Vertex = vertexFrom [] in
       let r : Record = recordFrom [] in
-      let vertices : listBelow (allVertices s) (vertexIn theLayout s s) ≡ m .vertices =
-      ap (λ (n : ℕ). listBelow n (vertexIn theLayout s s)) vertex-count
-      ∙ list-of (vertexIn theLayout s s) v (m .vertices) (λ k l. sym (mesh-vertex k v l)) in
-      let records : listBelow (allRecords s) (recordIn theLayout s s) ≡ m .records =
-      ap (λ (n : ℕ). listBelow n (recordIn theLayout s s)) record-count
-      ∙ list-of (recordIn theLayout s s) r (m .records) (λ k l. sym (mesh-record k r l)) in
-      λ i. record { header = mesh-header i; vertices = vertices i; records = records i }
+      let vertices : listBelow (allVertices s) (vertexIn (theLayout m (f .counts)) s s) ≡ m .vertices =
+      ap (λ (n : ℕ). listBelow n (vertexIn (theLayout m (f .counts)) s s)) (vertex-count m (f .counts))
+      ∙ list-of (vertexIn (theLayout m (f .counts)) s s) v (m .vertices) (λ k l. sym (mesh-vertex k v l)) in
+      let records : listBelow (allRecords s) (recordIn (theLayout m (f .counts)) s s) ≡ m .records =
+      ap (λ (n : ℕ). listBelow n (recordIn (theLayout m (f .counts)) s s)) (record-count m (f .counts))
+      ∙ list-of (recordIn (theLayout m (f .counts)) s s) r (m .records) (λ k l. sym (mesh-record k r l)) in
+      λ i. record { header = mesh-header m (f .counts) i; vertices = vertices i; records = records i }
 
 -- ---- from bytes to their mesh and back
 

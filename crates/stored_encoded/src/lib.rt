@@ -52,7 +52,7 @@ pub fn header_bytes(h: Header) -> [u8; 20]
     ]
 }
 
-// How a parent or a first child, which may be none, is stored.
+// How a vertex or record number, which may be none, is stored.
 fn stored_or_none(n: u32) -> u32
     ensures { λ r. ⌜ r ≡ storedOrNone n ⌝ }
 {
@@ -94,7 +94,12 @@ pub fn record_bytes(r: Record) -> [u8; 17]
     let child = stored_or_none(r.first_child);
     let corners = piece.corners;
     let marks = piece.marks;
-    let front = number_bytes(corners[0], corners[1], corners[2], corners[3]);
+    let front = number_bytes(
+        stored_or_none(corners[0]),
+        stored_or_none(corners[1]),
+        stored_or_none(corners[2]),
+        stored_or_none(corners[3]),
+    );
     [
         front[0],
         front[1],

@@ -47,7 +47,7 @@ fn place(s: &[u8], at: usize) -> u16
     ((n + 32768) % 65536) as u16
 }
 
-// A parent or a first child, which may be none.
+// A vertex or record number, which may be none.
 fn number_or_none(s: &[u8], at: usize) -> u32
     ensures { λ r. ⌜ r ≡ orNone (u16At (now (s .entry)) at) ⌝ }
 {
@@ -96,13 +96,13 @@ pub fn parents_in<'a>(l: Layout, base: &'a [u8], grown: &'a [u8], i: usize) -> P
 }
 
 fn corners_from(entry: &[u8]) -> [u32; 4]
-    ensures { λ r. ⌜ r ≡ u16At (now (entry .entry)) 0 ∷ u16At (now (entry .entry)) 2 ∷ u16At (now (entry .entry)) 4 ∷ u16At (now (entry .entry)) 6 ∷ [] ⌝ }
+    ensures { λ r. ⌜ r ≡ orNone (u16At (now (entry .entry)) 0) ∷ orNone (u16At (now (entry .entry)) 2) ∷ orNone (u16At (now (entry .entry)) 4) ∷ orNone (u16At (now (entry .entry)) 6) ∷ [] ⌝ }
 {
     [
-        slices::two(entry, 0),
-        slices::two(entry, 2),
-        slices::two(entry, 4),
-        slices::two(entry, 6),
+        number_or_none(entry, 0),
+        number_or_none(entry, 2),
+        number_or_none(entry, 4),
+        number_or_none(entry, 6),
     ]
 }
 

@@ -7,7 +7,7 @@ use Rattle.stored_encoded.proofs.record_bytes.Tie as tie
 
 returns : tie.Need-returns
 unfolding recordBytes numberBytes
-returns c = rw (c .number-bytes .ensures, ← c .before .before .before .stored-or-none .ensures)
+returns c = rw (c .number-bytes .ensures, ← c .before .before .before .before .before .before .before .stored-or-none .ensures, ← c .before .before .before .before .stored-or-none2 .ensures, ← c .before .before .before .stored-or-none3 .ensures, ← c .before .before .stored-or-none4 .ensures, ← c .before .stored-or-none5 .ensures)
 
 pub record-bytes-spec : {M : Type 1} → statement M
-record-bytes-spec = tie.close (tie.spec (λ c κs. search needs) (λ c. search needs) (λ c. search needs) (λ c. search needs) (λ c. search needs) (λ c κs. search needs) (λ c. search needs) (λ c. search needs) (λ c. search needs) (λ c. search needs) (λ c. search needs) (λ c. search needs) (λ c. search needs) (λ c. search needs) (λ c. search needs) (λ c. search needs) (λ c. search needs) (λ c. search needs) (λ c. search needs) (λ c. search needs) returns)
+record-bytes-spec = tie.close (tie.spec (λ c κs. search needs) (λ c. search needs) (λ c κs. search needs) (λ c. search needs) (λ c κs. search needs) (λ c. search needs) (λ c κs. search needs) (λ c. search needs) (λ c κs. search needs) (λ c κs. search needs) (λ c. search needs) (λ c. search needs) (λ c. search needs) (λ c. search needs) (λ c. search needs) (λ c. search needs) (λ c. search needs) (λ c. search needs) (λ c. search needs) (λ c. search needs) (λ c. search needs) (λ c. search needs) (λ c. search needs) (λ c. search needs) returns)
