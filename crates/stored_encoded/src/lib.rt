@@ -22,7 +22,7 @@ fn number_bytes(a: u32, b: u32, c: u32, d: u32) -> [u8; 8]
     ]
 }
 
-pub fn header_bytes(h: Header) -> [u8; 20]
+pub fn header_bytes(h: Header) -> [u8; stored::HEADER_WIDTH]
     ensures { λ r. ⌜ r ≡ headerBytes h ⌝ }
 {
     let job = h.job;
@@ -63,7 +63,7 @@ fn stored_or_none(n: u32) -> u32
     }
 }
 
-pub fn vertex_bytes(v: Vertex) -> [u8; 10]
+pub fn vertex_bytes(v: Vertex) -> [u8; stored::VERTEX_WIDTH]
     ensures { λ r. ⌜ r ≡ vertexBytes v ⌝ }
 {
     let place = v.place;
@@ -87,7 +87,7 @@ pub fn vertex_bytes(v: Vertex) -> [u8; 10]
     ]
 }
 
-pub fn record_bytes(r: Record) -> [u8; 17]
+pub fn record_bytes(r: Record) -> [u8; stored::RECORD_WIDTH]
     ensures { λ b. ⌜ b ≡ recordBytes r ⌝ }
 {
     let piece = r.piece;
