@@ -6,6 +6,7 @@ ghost use mathlib.Core.Path.{_≡_};
 ghost use Rattle.piece.specs.Ends.{endsOf};
 ghost use Rattle.stored.specs.Layout.{recordIn};
 ghost use Rattle.check_refusals.specs.Tables.{tables};
+ghost use Rattle.check_refusals.specs.Refusals.{hangsAt, leafHangs};
 ghost use Rattle.check_hanging.specs.Hanging.{foundOf};
 
 // A record's number and an edge code.
@@ -51,4 +52,28 @@ pub fn first_hanging<'a>(h: Header, l: Layout, base: &'a [u8], grown: &'a [u8]) 
         n += 1;
     }
     found
+}
+
+fn hangs_at<'a>(h: Header, l: Layout, base: &'a [u8], grown: &'a [u8], n: usize, e: u8) -> bool
+    ensures { λ r. ⌜ r ≡ hangsAt (tables h l (now (base .entry)) (now (grown .entry))) n e ⌝ }
+{
+    if !check_refusals::is_leaf(l, base, grown, n) {
+        return false;
+    }
+    let ends = ends_at(l, base, grown, n, e);
+    check_parents::vertex_with(h, l, base, grown, ends) < h.vertices as usize
+}
+
+// Whether record n is a leaf that has a hanging edge.
+pub fn leaf_hangs<'a>(h: Header, l: Layout, base: &'a [u8], grown: &'a [u8], n: usize) -> bool
+    ensures { λ r. ⌜ r ≡ leafHangs (tables h l (now (base .entry)) (now (grown .entry))) n ⌝ }
+{
+    let mut e: u8 = 0;
+    while e < 6 {
+        if hangs_at(h, l, base, grown, n, e) {
+            return true;
+        }
+        e += 1;
+    }
+    false
 }

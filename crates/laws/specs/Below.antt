@@ -298,6 +298,14 @@ module _ (P : ℕ → Bool) where
 
 -- ---- lists by their elements
 
+-- There is one exactly where the first is below the bound.
+pub any-first : (P : ℕ → Bool) (n : ℕ) → anyBelow n P ≡ ltb (firstBelow n P) n
+any-first P n =
+    ⊎-elim
+    (λ t. t ∙ sym (lt-ltb (firstBelow n P) n (first-where P n t .0)))
+    (λ f. let none = first-no P n f in f ∙ sym (le-ltb (firstBelow n P) n (omega arith)))
+    (either (anyBelow n P))
+
 -- The first number below a bound is at most the bound.
 pub first-at-most : (P : ℕ → Bool) (n : ℕ) → firstBelow n P ≤ n
 first-at-most P n =

@@ -58,6 +58,10 @@ orNone n = cond (eqb n storedNone) none n
 unfoldable pub storedOrNone : ℕ → ℕ
 storedOrNone n = cond (eqb n none) storedNone n
 
+-- "the round is 65,535": the last that a u16 holds
+abbrev pub lastRound : ℕ
+lastRound = 65535
+
 -- "Header, 20 bytes", "Vertex, 10 bytes", "Record, 17 bytes"
 abbrev pub headerWidth : ℕ
 headerWidth = 20

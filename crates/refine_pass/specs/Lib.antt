@@ -1,0 +1,2 @@
+-- Document 01, "Build and refine": "Refine works in passes".
+pub mod Passes

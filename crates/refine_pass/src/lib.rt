@@ -1,0 +1,1 @@
+// The passes of refine, as definitions.

@@ -1,0 +1,68 @@
+-- What refine answers, for every stored mesh, every selection and every length of the output buffer.
+use mathlib.Core.Bool.{Bool, cond}
+use mathlib.Core.List.{List, [], _∷_, _++_}
+use Prim.Native.Nat.{ℕ, _+_, _-_}
+use lib.ListN.{length, replicate}
+use lib.Dec.{eqb, ltb}
+use Rattle.laws.specs.Below.{listBelow}
+use Rattle.stored.specs.declared.Header.{Header}
+use Rattle.stored.specs.Layout.{limits, lastRound, headerOf, meshLength, Mesh, meshBytes, selectionOf, namedIn}
+use Rattle.check_refusals.specs.Tables.{Tables, tablesOf, allVertices, allRecords}
+use Rattle.check_refusals.specs.Check.{Row, row, rows, firstBroken}
+use Rattle.refine_selection.specs.Selected.{wrongSelectionLength, wrongSelectionMark, anotherJob, anotherRound, badNumbers, namesCut, namesLast, isNamed}
+use Rattle.refine_pass.specs.Passes.{exceeds, refined}
+
+-- The tables after pass one, which "cuts the selected records", and all later passes.
+unfoldable pub closed : List ℕ → List ℕ → Tables
+closed mesh selection = refined limits (isNamed (selectionOf selection .count) (namedIn selection)) (tablesOf mesh)
+
+-- "The round rises by 1"; all else in the header stays.
+abbrev pub nextRound : Header → Header
+nextRound h =
+    record {
+      job = h .job;
+      round = h .round + 1;
+      «base_vertices» = h .«base_vertices»;
+      vertices = h .vertices;
+      «base_records» = h .«base_records»;
+      records = h .records;
+    }
+
+-- The mesh that is written.
+unfoldable pub resultOf : Tables → Mesh
+resultOf m =
+    record {
+      header = nextRound (m .header);
+      vertices = listBelow (allVertices m) (m .vertexAt);
+      records = listBelow (allRecords m) (m .recordAt);
+    }
+
+-- Refusals 11 to 20, of the mesh, the selection and the output buffer's length.
+unfoldable pub selectionRows : List ℕ → List ℕ → ℕ → List Row
+selectionRows mesh selection room =
+    let h = headerOf mesh in
+    let s = selectionOf selection in
+    let m = tablesOf mesh in
+    let c = closed mesh selection in
+    row 11 (wrongSelectionLength selection)
+    ∷ row 12 (wrongSelectionMark selection)
+    ∷ row 13 (anotherJob h s)
+    ∷ row 14 (anotherRound h s)
+    ∷ row 15 (badNumbers (h .records) (s .count) (namedIn selection))
+    ∷ row 16 (namesCut (m .recordAt) (s .count) (namedIn selection))
+    ∷ row 17 (namesLast (m .recordAt) (s .count) (namedIn selection))
+    ∷ row 18 (eqb (h .round) lastRound)
+    ∷ row 19 (exceeds limits (c .header))
+    ∷ row 20 (ltb room (meshLength (allVertices c) (allRecords c)))
+    ∷ []
+
+-- "Refine gives 1 to 20": 1 to 10 are check's own.
+unfoldable pub refineNumber : List ℕ → List ℕ → ℕ → ℕ
+refineNumber mesh selection room = firstBroken (rows mesh ++ selectionRows mesh selection room)
+
+-- "After a refusal the output buffer is zero throughout; after acceptance it is zero past the result."
+unfoldable pub refineBytes : List ℕ → List ℕ → ℕ → List ℕ
+refineBytes mesh selection room =
+    let bytes = meshBytes (resultOf (closed mesh selection)) in
+    let stored = bytes ++ replicate (room - length bytes) 0 in
+    cond (eqb (refineNumber mesh selection room) 0) stored (replicate room 0)

@@ -1,0 +1,92 @@
+-- Starred rows of "A piece worked by hand", computed from the definitions: K, cut once, and who may cut it again.
+use mathlib.Core.Path.{_≡_, refl}
+use mathlib.Core.Bool.{Bool, true, _&&_}
+use mathlib.Core.List.{List, [], _∷_}
+use Prim.Native.Nat.{ℕ}
+use lib.Dec.{eqb}
+use Rattle.laws.specs.Below.{foldBelow, allBelow, anyBelow, countBelow, sumBelow, firstBelow, listBelow}
+use Rattle.laws.specs.Lists.{joined}
+use Rattle.laws.specs.Numbers.{number, numberBytes}
+use Rattle.piece_edges.specs.Edges.{lowSlot, highSlot, hasSlot, otherEnd, joins, edgeBetween, onFace, opposite, oppositeOn, shares, sharedSlot}
+use Rattle.piece.specs.Shape.{slotA, slotB, slotC, slotD, edgeCD, otherMarksAre, typeP, setP, unsetP, markFits}
+use Rattle.piece.specs.Ends.{lowerEnd, higherEnd, endsOf}
+use Rattle.piece.specs.Same.{sameSlot, sameSlots, samePiece}
+use Rattle.piece_cut.specs.Cut.{newMark, childFlag, childMark, childShape, childOf, cutOf}
+use Rattle.grid.specs.Places.{coordinate, coordinateOnGrid, onGrid, samePlace, isHalfway, halfwayOf}
+use Rattle.grid_volume.specs.Volume.{minorOf, determinantOf, differenceOf, differencesOf, sixfoldOf}
+use Rattle.stored.specs.declared.Vertex.{Vertex}
+use Rattle.stored.specs.declared.Record.{Record}
+use Rattle.stored.specs.Layout.{none, marked, markBytes, rightMark, rightLength, headerOf, headerBytes, orNone, storedOrNone, heldIn, vertexIn, vertexFrom, vertexBytes, recordIn, recordFrom, recordBytes, meshBytes, Mesh, rightSelectionMark, rightSelectionLength, selectionOf, selectionBytes, namedIn}
+use Rattle.check_refusals.specs.Tables.{tablesOf, hasParents, vertexWith, hangs, sixfoldAt}
+use Rattle.check_refusals.specs.Refusals.{wrongLength, wrongMark, wrongCounts, badVertices, badVertex, badBaseVertex, placeTwice, badMadeVertex, pairTwice, badBaseRecords, badBaseRecord, badPiece, equalCorners, cornerNotInBase, badBaseMarks, badMarks, badBaseFaces, badFaces, badWith, badTogether, faceInThree, faceBefore, hasFace, sameFace, faceWithin, faceHas, sameCorners, cornersWithin, hasCorner, twoMarks, twoMarksOn, sameMark, sameEnds, unusedVertices, unusedVertex, badCuts, badRecord, badCut, badChildren, isChildOf, notChildOfOne, tooDeep, isMidpointOf, noMidpoint, hangsAt, leafHangs, hangingEdge}
+use Rattle.check_refusals.specs.Check.{tableRows, rows, firstBroken}
+use Rattle.refine_selection.specs.Selected.{wrongSelectionLength, wrongSelectionMark, anotherJob, anotherRound, badNumber, badNumbers, namesCut, namesLast, isNamed}
+use Rattle.refine_cut.specs.Cut.{midpointOf, withMidpoint, withChildren, cutAt}
+use Rattle.refine_pass.specs.Passes.{exceeds, turn, passBelow, pass, closing, refined}
+use Rattle.refine_service.specs.Refine.{closed, resultOf, selectionRows, refineNumber, refineBytes}
+
+-- The vertex at these places with these parents. A coordinate's place is 32,768 more.
+abbrev vertex : ℕ → ℕ → ℕ → ℕ → ℕ → Vertex
+vertex x y z p q = record { place = record { x = x; y = y; z = z }; p = p; q = q }
+
+abbrev K-vertices : List Vertex
+K-vertices =
+    vertex 32768 32768 32768 none none ∷ vertex 32832 32768 32768 none none ∷ vertex 32832 32832 32768 none none ∷ vertex 32832 32832 32832 none none ∷ []
+
+abbrev K-record : ℕ → Record
+K-record first = record { piece = record { corners = 0 ∷ 1 ∷ 2 ∷ 3 ∷ []; edge = 2; marks = 4 ∷ 2 ∷ 2 ∷ 1 ∷ []; flag = 0; generation = 0 }; «first_child» = first }
+
+-- K as build stores it.
+abbrev K : List ℕ
+K =
+    meshBytes
+    (record {
+      header = record { job = 7; round = 0; «base_vertices» = 4; vertices = 4; «base_records» = 1; records = 1 };
+      vertices = K-vertices;
+      records = K-record none ∷ [];
+    })
+
+-- K with record 0 cut: "vertex 4 is (32,32,32) with parents 0, 3. Record 1: corners 0 1 2 4, edge 1, marks 3, 1, 0, 1. Record 2: 4 1 2 3,
+-- edge 4, marks 4, 5, 4, 3."
+abbrev K-cut : List ℕ
+K-cut =
+    meshBytes
+    (record {
+      header = record { job = 7; round = 1; «base_vertices» = 4; vertices = 5; «base_records» = 1; records = 3 };
+      vertices =
+          vertex 32768 32768 32768 none none
+          ∷ vertex 32832 32768 32768 none none
+          ∷ vertex 32832 32832 32768 none none
+          ∷ vertex 32832 32832 32832 none none
+          ∷ vertex 32800 32800 32800 0 3
+          ∷ [];
+      records =
+          K-record 1
+          ∷ record { piece = record { corners = 0 ∷ 1 ∷ 2 ∷ 4 ∷ []; edge = 1; marks = 3 ∷ 1 ∷ 0 ∷ 1 ∷ []; flag = 0; generation = 1 }; «first_child» = none }
+          ∷ record { piece = record { corners = 4 ∷ 1 ∷ 2 ∷ 3 ∷ []; edge = 4; marks = 4 ∷ 5 ∷ 4 ∷ 3 ∷ []; flag = 0; generation = 1 }; «first_child» = none }
+          ∷ [];
+    })
+
+-- A selection of this job and round that names these records.
+abbrev selecting : ℕ → ℕ → ℕ → List ℕ → List ℕ
+selecting job round count named = selectionBytes (record { job = job; round = round; count = count }) named
+
+-- Two lists of bytes are the same.
+unfoldable pub same : List ℕ → List ℕ → Bool
+same [] [] = true
+same [] (y ∷ ys) = eqb 0 1
+same (x ∷ xs) [] = eqb 0 1
+same (x ∷ xs) (y ∷ ys) = eqb x y && same xs ys
+
+pub record Rows : Type 0 where
+  -- "K, select 0: [..] 121 bytes; an output buffer of 120 gets 20."
+  pub cut : refineNumber K (selecting 7 0 1 (0 ∷ [])) 121 ≡ 0
+  pub cut-bytes : same (refineBytes K (selecting 7 0 1 (0 ∷ [])) 121) K-cut ≡ true
+  pub short : refineNumber K (selecting 7 0 1 (0 ∷ [])) 120 ≡ 20
+  -- "Selection of round 0 on a mesh of round 1: 14. With the job wrong too: 13."
+  pub expired : refineNumber K-cut (selecting 7 0 1 (0 ∷ [])) 121 ≡ 14
+  pub of-another-job : refineNumber K-cut (selecting 8 0 1 (0 ∷ [])) 121 ≡ 13
+
+pub rows-hold : Rows
+unfolding same foldBelow allBelow anyBelow countBelow sumBelow firstBelow listBelow joined number numberBytes lowSlot highSlot hasSlot otherEnd joins edgeBetween onFace opposite oppositeOn shares sharedSlot slotA slotB slotC slotD edgeCD otherMarksAre typeP setP unsetP markFits lowerEnd higherEnd endsOf sameSlot sameSlots samePiece newMark childFlag childMark childShape childOf cutOf coordinate coordinateOnGrid onGrid samePlace isHalfway halfwayOf minorOf determinantOf differenceOf differencesOf sixfoldOf marked markBytes rightMark rightLength headerOf headerBytes orNone storedOrNone heldIn vertexIn vertexFrom vertexBytes recordIn recordFrom recordBytes meshBytes rightSelectionMark rightSelectionLength selectionOf selectionBytes namedIn tablesOf hasParents vertexWith hangs sixfoldAt wrongLength wrongMark wrongCounts badVertices badVertex badBaseVertex placeTwice badMadeVertex pairTwice badBaseRecords badBaseRecord badPiece equalCorners cornerNotInBase badBaseMarks badMarks badBaseFaces badFaces badWith badTogether faceInThree faceBefore hasFace sameFace faceWithin faceHas sameCorners cornersWithin hasCorner twoMarks twoMarksOn sameMark sameEnds unusedVertices unusedVertex badCuts badRecord badCut badChildren isChildOf notChildOfOne tooDeep isMidpointOf noMidpoint hangsAt leafHangs hangingEdge tableRows rows firstBroken wrongSelectionLength wrongSelectionMark anotherJob anotherRound badNumber badNumbers namesCut namesLast isNamed midpointOf withMidpoint withChildren cutAt exceeds turn passBelow pass closing refined closed resultOf selectionRows refineNumber refineBytes
+rows-hold = record { cut = refl; cut-bytes = refl; short = refl; expired = refl; of-another-job = refl }

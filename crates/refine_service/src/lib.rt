@@ -1,0 +1,1 @@
+// The service refine, as definitions.
