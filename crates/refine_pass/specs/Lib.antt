@@ -1,2 +1,4 @@
 -- Document 01, "Build and refine": "Refine works in passes".
 pub mod Passes
+pub mod Puts
+pub mod Steps

@@ -1,0 +1,78 @@
+-- The passes in two slices, turn by turn: from what each call leaves to what the definition says.
+use mathlib.Core.Path.{_≡_, refl, sym, ap, _∙_}
+use mathlib.Core.Bool.{Bool, true, false, not, cond, _&&_}
+use Prim.Native.Nat.{ℕ, zero, suc, _+_, _-_, _≤_, _<_}
+use native.Mathlib.Numerals.{add-one}
+use native.Mathlib.Omega.{arith}
+use Rattle.laws.specs.Below.{and-false}
+use Rattle.stored.specs.declared.Limits.{Limits}
+use Rattle.stored.specs.declared.Layout.{Layout}
+use Rattle.check_refusals.specs.Refusals.{hangingEdge}
+use Rattle.refine_cut.specs.Slices.{Slices, tablesIn, cutPut}
+use Rattle.refine_pass.specs.Passes.{exceeds}
+use Rattle.refine_pass.specs.Puts.{turnPut, turnsPut, passPut, hangsSince, closingPut, refinedPut}
+
+module _ (most : Limits) (l : Layout) where
+  -- ---- a turn
+
+  pub turn-not-chosen : (chosen : Bool) (n : ℕ) (s : Slices) → chosen ≡ false → s ≡ turnPut most l chosen n s
+  unfolding turnPut
+  turn-not-chosen chosen n s e = rw e
+
+  pub turn-beyond : (chosen : Bool) (n : ℕ) (s : Slices) → exceeds most (s .header) ≡ true → s ≡ turnPut most l chosen n s
+  unfolding turnPut
+  turn-beyond chosen n s e = rw (e, and-false chosen)
+
+  pub turn-cut : (chosen : Bool) (n : ℕ) (s t : Slices) → chosen ≡ true → exceeds most (s .header) ≡ false → t ≡ cutPut l s n → t ≡ turnPut most l chosen n s
+  unfolding turnPut
+  turn-cut chosen n s t c e is = rw (c, e) is
+
+  -- ---- a pass
+
+  module _ (choose : Slices → ℕ → Bool) (start : Slices) where
+    pub turns-none : start ≡ turnsPut most l choose 0 start
+    unfolding turnsPut
+    turns-none = refl
+
+    pub turns-next : (n : ℕ) (s t : Slices) (chosen : Bool) → s ≡ turnsPut most l choose n start → chosen ≡ choose s n → t ≡ turnPut most l chosen n s → t ≡ turnsPut most l choose (n + 1) start
+    unfolding turnsPut
+    turns-next n s t chosen so is turned =
+        turned
+        ∙ ap (λ (b : Bool). turnPut most l b n s) is
+        ∙ ap (λ (x : Slices). turnPut most l (choose x n) n x) so
+        ∙ ap (λ (k : ℕ). turnsPut most l choose k start) (sym (add-one n))
+
+    pub turns-all : (n : ℕ) (s : Slices) → n ≤ start .header .records → start .header .records ≤ n → s ≡ turnsPut most l choose n start → s ≡ passPut most l choose start
+    unfolding passPut
+    turns-all n s below above so = so ∙ ap (λ (k : ℕ). turnsPut most l choose k start) (omega arith)
+
+  -- ---- the closing
+
+  pub closing-rests : (passes : ℕ) (s : Slices) → hangingEdge (tablesIn l s) ≡ false → closingPut most l passes s ≡ s
+  unfolding closingPut
+  closing-rests zero s e = refl
+  closing-rests (suc passes) s e = rw e
+
+  pub closing-beyond : (passes : ℕ) (s : Slices) → exceeds most (s .header) ≡ true → closingPut most l passes s ≡ s
+  unfolding closingPut
+  closing-beyond zero s e = refl
+  closing-beyond (suc passes) s e = rw (e, and-false (hangingEdge (tablesIn l s)))
+
+  pub closing-out : (passes : ℕ) (s : Slices) → passes ≤ 0 → closingPut most l passes s ≡ s
+  unfolding closingPut
+  closing-out zero s e = refl
+  closing-out (suc passes) s e = absurd (omega arith)
+
+  pub closing-next : (passes : ℕ) (s t : Slices) → 0 < passes → hangingEdge (tablesIn l s) ≡ true → exceeds most (s .header) ≡ false → t ≡ passPut most l (hangsSince l s) s →
+      closingPut most l (passes - 1) t ≡ closingPut most l passes s
+  unfolding closingPut
+  closing-next zero s t some h e is = absurd (omega arith)
+  closing-next (suc passes) s t some h e is =
+      let less : suc passes - 1 ≡ passes = omega arith in
+      rw (h, e) (ap (λ (k : ℕ). closingPut most l k t) less ∙ ap (closingPut most l passes) is)
+
+  -- ---- all passes
+
+  pub refined-is : (chosen : ℕ → Bool) (s t u : Slices) → t ≡ passPut most l (λ x. chosen) s → u ≡ closingPut most l (most .records) t → u ≡ refinedPut most l chosen s
+  unfolding refinedPut
+  refined-is chosen s t u first all = all ∙ ap (closingPut most l (most .records)) first
