@@ -218,6 +218,15 @@ bytes-drop zero l p = p
 bytes-drop (suc n) [] p = p
 bytes-drop (suc n) (x ∷ xs) p = bytes-drop n xs (bytes-rest x xs p)
 
+pub bytes-set : (l : List ℕ) (i a : ℕ) → Bytes l → a < 256 → Bytes (set l i a)
+bytes-set [] i a p h = p
+bytes-set (x ∷ xs) zero a p h = bytes-cons h (bytes-rest x xs p)
+bytes-set (x ∷ xs) (suc i) a p h = bytes-cons (p .byte 0) (bytes-set xs i a (bytes-rest x xs p) h)
+
+pub bytes-sets : (l : List ℕ) (at : ℕ) (b : List ℕ) → Bytes l → Bytes b → Bytes (sets l at b)
+bytes-sets l at [] p q = p
+bytes-sets l at (x ∷ xs) p q = bytes-sets (set l at x) (suc at) xs (bytes-set l at x p (q .byte 0)) (bytes-rest x xs q)
+
 pub bytes-joined {ℓ} : {A : Type ℓ} (f : A → List ℕ) (l : List A) → ((k : ℕ) (d : A) → k < length l → Bytes (f (getD l k d))) → Bytes (joined f l)
 unfolding joined
 bytes-joined f [] h = bytes-none

@@ -14,8 +14,9 @@ use Rattle.piece_cut.specs.Cut.{cutOf}
 use Rattle.stored.specs.declared.Layout.{Layout}
 use Rattle.stored.specs.declared.Vertex.{Vertex}
 use Rattle.stored.specs.declared.Record.{Record}
-use Rattle.stored.specs.Layout.{storedNone, vertexIn, recordIn}
-use Rattle.stored.specs.Fitting.{OrNone, VertexFits, RecordFits, vertex-fits, record-fits}
+use Rattle.stored.specs.Layout.{storedNone, vertexBytes, recordBytes, vertexIn, recordIn}
+use Rattle.stored.specs.Fitting.{OrNone, VertexFits, RecordFits, into-base-bytes, into-growth-bytes, vertex-fits, record-fits}
+use Rattle.stored.specs.Entries.{vertex-is-bytes, record-is-bytes}
 use Rattle.stored.specs.Tables.{Holds, vertex-put, vertex-put-records, vertex-put-holds, record-put, record-put-vertices, record-put-holds}
 use Rattle.check_refusals.specs.Tables.{Tables, hasParents, vertexWith, refinementEnds}
 use Rattle.refine_cut.specs.Cut.{midpointOf, oneVertexMore, twoRecordsMore, withMidpoint, cutRecord, leafRecord, withChildren, cutAt}
@@ -48,6 +49,15 @@ module _ (l : Layout) (s : Slices) (h : Holds l (s .base) (s .grown)) (i : ℕ) 
   put-holds : Holds l (recordPut l s i r .base) (recordPut l s i r .grown)
   unfolding recordPut
   put-holds = record-put-holds l (s .base) (s .grown) h i r
+
+module _ (l : Layout) (s : Slices) (i : ℕ) (r : Record) (f : RecordFits r) where
+  put-base-bytes : Bytes (s .base) → Bytes (recordPut l s i r .base)
+  unfolding recordPut
+  put-base-bytes b = into-base-bytes (l .format .«record_width») (l .records) (s .base) i (recordBytes r) b (record-is-bytes r f)
+
+  put-growth-bytes : Bytes (s .grown) → Bytes (recordPut l s i r .grown)
+  unfolding recordPut
+  put-growth-bytes b = into-growth-bytes (l .format .«record_width») (l .records) (s .grown) i (recordBytes r) b (record-is-bytes r f)
 
 -- ---- the two children
 
@@ -97,6 +107,16 @@ module _ (l : Layout) (s : Slices) (h : Holds l (s .base) (s .grown)) (n w : ℕ
   unfolding childrenPut
   children-holds = put-holds l one one-holds (first + 1) (leafRecord (cutOf (r .piece) w .second))
 
+  children-bytes : Bytes (s .base) × Bytes (s .grown) → Bytes (childrenPut l s n r w .base) × Bytes (childrenPut l s n r w .grown)
+  unfolding childrenPut
+  children-bytes b =
+      let fc = cut-record-fits r first f (inr (omega arith)) in
+      let fo = children-fit r f w small .0 in
+      let ft = children-fit r f w small .1 in (
+        put-base-bytes l one (first + 1) (leafRecord (cutOf (r .piece) w .second)) ft (put-base-bytes l cut first (leafRecord (cutOf (r .piece) w .first)) fo (put-base-bytes l s n (cutRecord (r .piece) first) fc (b .0))),
+        put-growth-bytes l one (first + 1) (leafRecord (cutOf (r .piece) w .second)) ft (put-growth-bytes l cut first (leafRecord (cutOf (r .piece) w .first)) fo (put-growth-bytes l s n (cutRecord (r .piece) first) fc (b .1))),
+      )
+
 -- ---- the midpoint
 
 -- The slices with the midpoint: their tables, that they hold them, and what the cut goes on with.
@@ -105,6 +125,7 @@ record Midway (l : Layout) (s t : Slices) (ends : Ends) : Type 0 where
   holds : Holds l (t .base) (t .grown)
   records : recordIn l (t .base) (t .grown) ≡ recordIn l (s .base) (s .grown)
   counted : t .header .records ≡ s .header .records
+  bytes : Bytes (s .base) × Bytes (s .grown) → Bytes (t .base) × Bytes (t .grown)
 
 module _ (l : Layout) (s : Slices) (h : Holds l (s .base) (s .grown)) (ends : Ends) (f : VertexFits (midpointOf (vertexIn l (s .base) (s .grown)) ends))
     (room : s .header .vertices < l .vertices .end) where
@@ -112,7 +133,7 @@ module _ (l : Layout) (s : Slices) (h : Holds l (s .base) (s .grown)) (ends : En
   unfolding midpointPut withMidpoint vertexPut
   midway =
       let r = go (eqb (vertexWith (tablesIn l s) ends) (s .header .vertices)) in
-      record { same = r .0; holds = r .1; records = r .2; counted = r .3 }
+      record { same = r .0; holds = r .1; records = r .2; counted = r .3; bytes = r .4 }
     where
       v : Vertex
       v = midpointOf (vertexIn l (s .base) (s .grown)) ends
@@ -135,9 +156,15 @@ module _ (l : Layout) (s : Slices) (h : Holds l (s .base) (s .grown)) (ends : En
       more-holds : Holds l (more .base) (more .grown)
       more-holds = vertex-put-holds l (s .base) (s .grown) h (s .header .vertices) v
 
-      go : (b : Bool) → (tablesIn l (cond b more s) ≡ cond b appended (tablesIn l s)) × (Holds l (cond b more s .base) (cond b more s .grown)) × (recordIn l (cond b more s .base) (cond b more s .grown) ≡ recordIn l (s .base) (s .grown)) × (cond b more s .header .records ≡ s .header .records)
-      go true = (more-same, more-holds, more-records, refl)
-      go false = (refl, h, refl, refl)
+      more-bytes : Bytes (s .base) × Bytes (s .grown) → Bytes (more .base) × Bytes (more .grown)
+      more-bytes b = (
+        into-base-bytes (l .format .«vertex_width») (l .vertices) (s .base) (s .header .vertices) (vertexBytes v) (b .0) (vertex-is-bytes v),
+        into-growth-bytes (l .format .«vertex_width») (l .vertices) (s .grown) (s .header .vertices) (vertexBytes v) (b .1) (vertex-is-bytes v),
+      )
+
+      go : (b : Bool) → (tablesIn l (cond b more s) ≡ cond b appended (tablesIn l s)) × (Holds l (cond b more s .base) (cond b more s .grown)) × (recordIn l (cond b more s .base) (cond b more s .grown) ≡ recordIn l (s .base) (s .grown)) × (cond b more s .header .records ≡ s .header .records) × (Bytes (s .base) × Bytes (s .grown) → Bytes (cond b more s .base) × Bytes (cond b more s .grown))
+      go true = (more-same, more-holds, more-records, refl, more-bytes)
+      go false = (refl, h, refl, refl, λ b. b)
 
 -- ---- the whole cut
 
@@ -201,3 +228,10 @@ module _ (l : Layout) (s : Slices) (n : ℕ) (ready : Ready l s n) where
       subst (λ (t : Slices). Holds l (t .base) (t .grown))
       (sym (cut-is ∙ ap (λ (r : Record). childrenPut l with-midpoint n r w-n) (sym same-record)))
       (children-holds l with-midpoint (half .holds) n w-n record-is-stored small room-left (ready .few-records) still-there)
+
+  -- They still are bytes.
+  pub cut-bytes : Bytes (cutPut l s n .base) × Bytes (cutPut l s n .grown)
+  cut-bytes =
+      subst (λ (t : Slices). Bytes (t .base) × Bytes (t .grown))
+      (sym (cut-is ∙ ap (λ (r : Record). childrenPut l with-midpoint n r w-n) (sym same-record)))
+      (children-bytes l with-midpoint (half .holds) n w-n record-is-stored small room-left (ready .few-records) still-there (half .bytes (ready .base-bytes, ready .grown-bytes)))

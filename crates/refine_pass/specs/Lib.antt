@@ -2,3 +2,4 @@
 pub mod Passes
 pub mod Puts
 pub mod Steps
+pub mod Law

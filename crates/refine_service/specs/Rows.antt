@@ -16,7 +16,7 @@ use Rattle.grid.specs.Places.{coordinate, coordinateOnGrid, onGrid, samePlace, 
 use Rattle.grid_volume.specs.Volume.{minorOf, determinantOf, differenceOf, differencesOf, sixfoldOf}
 use Rattle.stored.specs.declared.Vertex.{Vertex}
 use Rattle.stored.specs.declared.Record.{Record}
-use Rattle.stored.specs.Layout.{none, marked, markBytes, rightMark, rightLength, headerOf, headerBytes, orNone, storedOrNone, heldIn, vertexIn, vertexFrom, vertexBytes, recordIn, recordFrom, recordBytes, meshBytes, Mesh, rightSelectionMark, rightSelectionLength, selectionOf, selectionBytes, namedIn}
+use Rattle.stored.specs.Layout.{none, marked, markBytes, rightMark, rightLength, headerOf, headerBytes, orNone, storedOrNone, heldIn, vertexIn, vertexFrom, vertexBytes, recordIn, recordFrom, recordBytes, meshBytes, rightSelectionMark, rightSelectionLength, selectionOf, selectionBytes, namedIn}
 use Rattle.check_refusals.specs.Tables.{tablesOf, hasParents, vertexWith, hangs, sixfoldAt}
 use Rattle.check_refusals.specs.Refusals.{wrongLength, wrongMark, wrongCounts, badVertices, badVertex, badBaseVertex, placeTwice, badMadeVertex, pairTwice, badBaseRecords, badBaseRecord, badPiece, equalCorners, cornerNotInBase, badBaseMarks, badMarks, badBaseFaces, badFaces, badWith, badTogether, faceInThree, faceBefore, hasFace, sameFace, faceWithin, faceHas, sameCorners, cornersWithin, hasCorner, twoMarks, twoMarksOn, sameMark, sameEnds, unusedVertices, unusedVertex, badCuts, badRecord, badCut, badChildren, isChildOf, notChildOfOne, tooDeep, isMidpointOf, noMidpoint, hangsAt, leafHangs, hangingEdge}
 use Rattle.check_refusals.specs.Check.{tableRows, rows, firstBroken}

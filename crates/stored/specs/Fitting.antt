@@ -1,16 +1,17 @@
 -- Values whose numbers fit their stored widths, and arrays that are as long as they are declared: what a reader gives, and what a
 -- writer keeps whole.
 use mathlib.Core.Path.{_≡_, refl, sym, subst}
-use mathlib.Core.Bool.{Bool, true, false, cond}
+use mathlib.Core.Bool.{Bool, true, false, cond, _&&_}
 use mathlib.Core.Logic.{_⊎_, inl, inr, ⊎-elim}
-use Prim.Native.Nat.{ℕ, zero, suc, _-_, _*_, _<_}
+use Prim.Native.Nat.{ℕ, zero, suc, _+_, _-_, _*_, _<_}
 use native.Mathlib.Omega.{arith}
 use mathlib.Core.List.{List, [], _∷_}
 use lib.ListN.{length, getD, take, drop}
-use lib.Dec.{eqb, ltb}
+use lib.Seq.{sets}
+use lib.Dec.{eqb, ltb, leb}
 use borrow.Author.Tests.{eq-eqb, ne-eqb, eqb-true, eqb-false}
 use Rattle.laws.specs.Below.{either, list-length, list-at}
-use Rattle.laws.specs.Lists.{Bytes, bytes-none, bytes-cons, bytes-drop, bytes-take}
+use Rattle.laws.specs.Lists.{Bytes, bytes-none, bytes-cons, bytes-drop, bytes-take, bytes-sets}
 use Rattle.laws.specs.Numbers.{number, number-below}
 use Rattle.stored.specs.declared.Table.{Table}
 use Rattle.stored.specs.declared.Layout.{Layout}
@@ -18,7 +19,7 @@ use Rattle.stored.specs.declared.Header.{Header}
 use Rattle.stored.specs.declared.Vertex.{Vertex}
 use Rattle.stored.specs.declared.Record.{Record}
 use Rattle.stored.specs.declared.Selection.{Selection}
-use Rattle.stored.specs.Layout.{none, storedNone, orNone, storedOrNone, u16At, allVertices, allRecords, headerOf, vertexFrom, recordFrom, heldIn, vertexIn, recordIn, layoutOf, Mesh, meshOf}
+use Rattle.stored.specs.Layout.{none, storedNone, orNone, storedOrNone, u16At, allVertices, allRecords, headerOf, vertexFrom, recordFrom, heldIn, baseInto, grownInto, vertexIn, recordIn, layoutOf, Mesh, meshOf}
 
 -- A u16 and a u32, as the mesh stores them.
 abbrev pub U16 : ℕ → Type 0
@@ -171,6 +172,23 @@ held-is-bytes w t base grown i b g = go (ltb i (t .end)) (ltb i (t .count))
     go false c = bytes-none
     go true true = bytes-take w (drop (w * i) (drop (t .base) base)) (bytes-drop (w * i) (drop (t .base) base) (bytes-drop (t .base) base b))
     go true false = bytes-take w (drop (w * (i - t .count)) (drop (t .grown) grown)) (bytes-drop (w * (i - t .count)) (drop (t .grown) grown) (bytes-drop (t .grown) grown g))
+
+-- what is written is bytes, where the entry is
+pub into-base-bytes : (w : ℕ) (t : Table) (s : List ℕ) (i : ℕ) (bytes : List ℕ) → Bytes s → Bytes bytes → Bytes (baseInto w t s i bytes)
+unfolding baseInto
+into-base-bytes w t s i bytes p q = go (ltb i (t .end) && ltb i (t .count))
+  where
+    go : (b : Bool) → Bytes (cond b (sets s (t .base + w * i) bytes) s)
+    go true = bytes-sets s (t .base + w * i) bytes p q
+    go false = p
+
+pub into-growth-bytes : (w : ℕ) (t : Table) (s : List ℕ) (i : ℕ) (bytes : List ℕ) → Bytes s → Bytes bytes → Bytes (grownInto w t s i bytes)
+unfolding grownInto
+into-growth-bytes w t s i bytes p q = go (ltb i (t .end) && leb (t .count) i)
+  where
+    go : (b : Bool) → Bytes (cond b (sets s (t .grown + w * (i - t .count)) bytes) s)
+    go true = bytes-sets s (t .grown + w * (i - t .count)) bytes p q
+    go false = p
 
 module _ (l : Layout) (base grown : List ℕ) (b : Bytes base) (g : Bytes grown) (i : ℕ) where
   pub vertex-fits : VertexFits (vertexIn l base grown i)

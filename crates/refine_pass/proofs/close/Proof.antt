@@ -1,11 +1,9 @@
 -- `refine_pass::close`: what is left to close is the same after each pass.
 -- Assumes nothing.
 use borrow.Author.Needs.{needs}
-use Prim.Native.Nat.{_≤_, _-_}
+use Prim.Native.Nat.{_-_}
 use mathlib.Core.Path.{_≡_, refl, sym, _∙_}
-use native.Mathlib.Omega.{arith}
 use lib.ListN.{length}
-use denote.Ref.{now}
 use borrow.Author.Tests.{not-true, not-false}
 use Rattle.refine_cut.specs.Slices.{slices}
 use Rattle.refine_pass.specs.Puts.{closingPut}
