@@ -73,6 +73,33 @@ struct tmb_report tmb_check(const uint8_t *mesh, size_t length);
 uint32_t tmb_build(uint32_t job, const int16_t *coordinates, size_t coordinate_count,
                    const uint16_t *corners, size_t corner_count, uint8_t *out, size_t room);
 
+/*
+ * Refine takes a stored mesh, the mesh_length bytes at mesh, and a selection, the selection_length
+ * bytes at selection, both only read, and writes the refined mesh. Every two byte strings get an
+ * answer. It gives back the number alone, 0 on acceptance; else the first rule broken, in the order
+ * of the numbers, names the refusal:
+ *
+ *    0  accepted
+ *    1 to 10, of the mesh: what check gives for it, in the words above
+ *   11  selection under 13 bytes, or length not 13 + 2 * n
+ *   12  selection's mark or version wrong
+ *   13  another job
+ *   14  another round: the selection has expired
+ *   15  numbers not strictly rising, or one not below the record count
+ *   16  a named record is already cut
+ *   17  a named record has generation 15
+ *   18  the round is 65,535
+ *   19  the closed result exceeds 1,024 vertices or 3,072 records
+ *   20  the output buffer is shorter than the result
+ *
+ * The result has 20 + 10 * vertices + 17 * records bytes, at most 62,484; its round is one higher,
+ * also for an empty selection, which cuts nothing. All room bytes at out are written: after
+ * acceptance the buffer is zero past the result, after a refusal it is zero throughout. It overlaps
+ * neither input. No pointer is NULL, also where its length is 0.
+ */
+uint32_t tmb_refine(const uint8_t *mesh, size_t mesh_length, const uint8_t *selection,
+                    size_t selection_length, uint8_t *out, size_t room);
+
 #ifdef __cplusplus
 }
 #endif

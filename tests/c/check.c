@@ -1,6 +1,6 @@
 /*
- * Calls tmb_check and tmb_build as docs/tmb.h declares them and compares the reports, the numbers and
- * the bytes; prints ok if all are right.
+ * Calls tmb_check, tmb_build and tmb_refine as docs/tmb.h declares them and compares the reports,
+ * the numbers and the bytes; prints ok if all are right.
  */
 #include "tmb.h"
 
@@ -29,6 +29,44 @@ static const uint8_t k[77] = {
     255, 255                       /* uncut */
 };
 
+/* K with record 0 cut: vertex 4 and records 1 and 2 are new; 121 bytes. */
+static const uint8_t cut[121] = {
+    'T', 'M', 'B', 1, 0,           /* mark, version 1 */
+    7, 0, 0, 0,                    /* job */
+    1, 0,                          /* round */
+    4, 0, 5, 0,                    /* base vertices, all vertices */
+    1, 0, 3, 0,                    /* base records, all records */
+    0,                             /* a zero byte */
+    0, 0, 0, 0, 0, 0,              /* vertex 0: (0,0,0) */
+    255, 255, 255, 255,            /* no parents */
+    64, 0, 0, 0, 0, 0,             /* vertex 1: (64,0,0) */
+    255, 255, 255, 255,            /* no parents */
+    64, 0, 64, 0, 0, 0,            /* vertex 2: (64,64,0) */
+    255, 255, 255, 255,            /* no parents */
+    64, 0, 64, 0, 64, 0,           /* vertex 3: (64,64,64) */
+    255, 255, 255, 255,            /* no parents */
+    32, 0, 32, 0, 32, 0,           /* vertex 4: (32,32,32) */
+    0, 0, 3, 0,                    /* parents 0, 3 */
+    0, 0, 1, 0, 2, 0, 3, 0,        /* record 0: corners 0 1 2 3 */
+    2,                             /* refinement edge */
+    4, 2, 2, 1,                    /* marks of faces 0 to 3 */
+    0, 0,                          /* flag, generation */
+    1, 0,                          /* first child */
+    0, 0, 1, 0, 2, 0, 4, 0,        /* record 1: corners 0 1 2 4 */
+    1,                             /* refinement edge */
+    3, 1, 0, 1,                    /* marks of faces 0 to 3 */
+    0, 1,                          /* flag, generation */
+    255, 255,                      /* uncut */
+    4, 0, 1, 0, 2, 0, 3, 0,        /* record 2: corners 4 1 2 3 */
+    4,                             /* refinement edge */
+    4, 5, 4, 3,                    /* marks of faces 0 to 3 */
+    0, 1,                          /* flag, generation */
+    255, 255                       /* uncut */
+};
+
+/* Record 0, selected for job 7 and round 0. */
+static const uint8_t selected[15] = {'T', 'M', 'S', 1, 0, 7, 0, 0, 0, 0, 0, 1, 0, 0, 0};
+
 /* K: its places, and its one piece. */
 static const int16_t places[12] = {0, 0, 0, 64, 0, 0, 64, 64, 0, 64, 64, 64};
 static const uint16_t piece[4] = {0, 1, 2, 3};
@@ -48,16 +86,23 @@ static void expect(const char *name, struct tmb_report given, struct tmb_report 
     }
 }
 
-/* Builds K, job 7, into so many bytes; wanted is NULL where they are all to be zero. */
-static void expect_built(const char *name, size_t room, uint32_t number, const uint8_t *wanted)
+/* The longest output buffer, and a byte on both sides of it. */
+static uint8_t buffer[1 + sizeof cut + 1];
+
+static void fill(void)
 {
-    uint8_t buffer[1 + sizeof k + 1];
-    uint32_t given;
     size_t i;
 
     for (i = 0; i < sizeof buffer; i++)
         buffer[i] = 170;
-    given = tmb_build(7, places, 12, piece, 4, buffer + 1, room);
+}
+
+/* The number, and room bytes from buffer + 1; wanted is NULL where they are all to be zero. */
+static void expect_written(const char *name, size_t room, uint32_t given, uint32_t number,
+                           const uint8_t *wanted)
+{
+    size_t i;
+
     if (given != number) {
         printf("%s: number %lu\n", name, (unsigned long)given);
         failures++;
@@ -72,6 +117,28 @@ static void expect_built(const char *name, size_t room, uint32_t number, const u
         printf("%s: written beyond the output buffer\n", name);
         failures++;
     }
+}
+
+/* Builds K, job 7, into so many bytes. */
+static void expect_built(const char *name, size_t room, uint32_t number, const uint8_t *wanted)
+{
+    uint32_t given;
+
+    fill();
+    given = tmb_build(7, places, 12, piece, 4, buffer + 1, room);
+    expect_written(name, room, given, number, wanted);
+}
+
+/* Refines a mesh by the selection into so many bytes. */
+static void expect_refined(const char *name, const uint8_t *mesh, size_t mesh_length,
+                           size_t selection_length, size_t room, uint32_t number,
+                           const uint8_t *wanted)
+{
+    uint32_t given;
+
+    fill();
+    given = tmb_refine(mesh, mesh_length, selected, selection_length, buffer + 1, room);
+    expect_written(name, room, given, number, wanted);
 }
 
 int main(void)
@@ -100,6 +167,13 @@ int main(void)
     expect_built("K built into 77 bytes", 77, 0, k);
     expect_built("K built into 76 bytes", 76, 20, NULL);
     expect_built("K built into none", 0, 20, NULL);
+
+    expect_refined("K refined into 121 bytes", k, sizeof k, sizeof selected, 121, 0, cut);
+    expect_refined("K refined into 120 bytes", k, sizeof k, sizeof selected, 120, 20, NULL);
+    expect_refined("K refined into none", k, sizeof k, sizeof selected, 0, 20, NULL);
+    expect_refined("the selection again", cut, sizeof cut, sizeof selected, 121, 14, NULL);
+    expect_refined("no selection", k, sizeof k, 0, 121, 11, NULL);
+    expect_refined("no mesh", k, 0, sizeof selected, 121, 1, NULL);
 
     if (failures == 0)
         puts("ok");

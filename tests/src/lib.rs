@@ -31,6 +31,14 @@ mod station {
             out: *mut u8,
             room: usize,
         ) -> u32;
+        pub fn tmb_refine(
+            mesh: *const u8,
+            mesh_length: usize,
+            selection: *const u8,
+            selection_length: usize,
+            out: *mut u8,
+            room: usize,
+        ) -> u32;
     }
 }
 
@@ -59,6 +67,23 @@ pub fn tmb_build(job: u32, coordinates: &[i16], corners: &[u16], out: &mut [u8])
             coordinates.len(),
             corners.as_ptr(),
             corners.len(),
+            out.as_mut_ptr(),
+            out.len(),
+        )
+    }
+}
+
+/// The proved refine: takes a stored mesh and a selection and writes the refined one. The number
+/// alone, 0 on acceptance.
+pub fn tmb_refine(mesh: &[u8], selection: &[u8], out: &mut [u8]) -> u32 {
+    // SAFETY: the pointers and the lengths are those of slices; the first two are only read, the
+    // third is written and overlaps neither.
+    unsafe {
+        station::tmb_refine(
+            mesh.as_ptr(),
+            mesh.len(),
+            selection.as_ptr(),
+            selection.len(),
             out.as_mut_ptr(),
             out.len(),
         )

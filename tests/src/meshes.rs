@@ -375,9 +375,9 @@ pub fn refined(mesh: &Mesh, numbers: &[u16]) -> Result<Mesh, u32> {
     Ok(Mesh::read(&bytes).expect("a stored mesh"))
 }
 
-/// Refined by a random selection: a few leaves, a third of them, all of one generation, or the
-/// deepest alone. Nothing if no leaf may be named or the tables have no room.
-pub fn refined_anyhow(mesh: &Mesh, random: &mut Random) -> Option<Mesh> {
+/// A random choice of the leaves that may be named, in rising number: a few, a third of them, all of
+/// one generation, or the deepest alone. Empty if there is none.
+pub fn chosen_anyhow(mesh: &Mesh, random: &mut Random) -> Vec<u16> {
     let mut leaves = open_leaves(mesh);
     let generation = |number: u16| mesh.records[usize::from(number)].generation;
     random.shuffle(&mut leaves);
@@ -385,8 +385,8 @@ pub fn refined_anyhow(mesh: &Mesh, random: &mut Random) -> Option<Mesh> {
         0..=3 => leaves.truncate(1 + random.below(3)),
         4 => leaves.truncate(1 + leaves.len() / 3),
         5 => {
-            let one = generation(*leaves.first()?);
-            leaves.retain(|&number| generation(number) == one);
+            let one = leaves.first().map(|&first| generation(first));
+            leaves.retain(|&number| Some(generation(number)) == one);
         }
         _ => {
             let deepest = leaves.iter().max_by_key(|&&number| generation(number));
@@ -394,6 +394,12 @@ pub fn refined_anyhow(mesh: &Mesh, random: &mut Random) -> Option<Mesh> {
         }
     }
     leaves.sort_unstable();
+    leaves
+}
+
+/// Refined by a random selection. Nothing if no leaf may be named or the tables have no room.
+pub fn refined_anyhow(mesh: &Mesh, random: &mut Random) -> Option<Mesh> {
+    let leaves = chosen_anyhow(mesh, random);
     refined(mesh, &leaves).ok().filter(|_| !leaves.is_empty())
 }
 

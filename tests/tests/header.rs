@@ -24,7 +24,7 @@ fn run(command: &mut Command) -> Output {
 }
 
 #[test]
-fn a_c_program_calls_check_and_build() {
+fn a_c_program_calls_the_services() {
     let program = Path::new(env!("CARGO_TARGET_TMPDIR")).join("check-in-c");
     run(Command::new("cc")
         .args(["-Wall", "-Wextra", "-Werror", "-std=c99", "-I"])

@@ -2,18 +2,17 @@
 use mathlib.Core.Path.{_≡_, refl, sym, ap, _∙_}
 use mathlib.Core.Logic.{_≢_}
 use mathlib.Core.Bool.{Bool, true, false, cond, _||_}
-use Prim.Native.Nat.{ℕ, zero, suc, _+_, _-_, _*_, _/_, _≤_, _<_}
+use Prim.Native.Nat.{ℕ, _+_, _-_, _*_, _/_, _≤_, _<_}
 use native.Mathlib.Numerals.{add-one}
-use native.Mathlib.Nat.{zero-add}
 use native.Mathlib.Omega.{arith}
 use mathlib.Core.List.{List, [], _∷_, _++_, append-nil}
-use lib.ListN.{length, take, drop, replicate, length-replicate}
+use lib.ListN.{length, take, drop, replicate}
 use lib.Seq.{sets, sets-eq, length-sets, take-at}
 use lib.IntN.{ℤ}
 use lib.Dec.{eqb, ltb}
 use borrow.Author.Tests.{ne-eqb, lt-ltb, le-ltb}
 use Rattle.laws.specs.Below.{listBelow, list-none, list-suc, list-length}
-use Rattle.laws.specs.Lists.{joined, joined-append, joined-length, sets-append}
+use Rattle.laws.specs.Lists.{joined, joined-append, joined-length, sets-append, clear-with}
 use Rattle.stored.specs.declared.Layout.{Layout}
 use Rattle.stored.specs.declared.Header.{Header}
 use Rattle.stored.specs.declared.Vertex.{Vertex}
@@ -274,15 +273,7 @@ module _ (s : List ℕ) (room : ℕ) where
 
     pub stored-bytes : length s ≤ room → sets (replicate room 0) 0 s ≡ laterBytes s room
     unfolding laterBytes
-    stored-bytes l =
-        rw (stored-number l)
-        (sets-eq s (replicate room 0) 0 (rw (length-replicate {A = ℕ} room 0) (omega arith))
-        ∙ ap (λ (r : List ℕ). s ++ r) (rest room (0 + length s)) ∙ ap (λ (k : ℕ). s ++ replicate (room - k) 0) (zero-add (length s)))
-      where
-        rest : (n k : ℕ) → drop {A = ℕ} k (replicate {A = ℕ} n 0) ≡ replicate {A = ℕ} (n - k) 0
-        rest n zero = let e : n ≡ n - 0 = omega arith in ap (λ (j : ℕ). replicate {A = ℕ} j 0) e
-        rest zero (suc k) = let e : 0 ≡ 0 - suc k = omega arith in ap (λ (j : ℕ). replicate {A = ℕ} j 0) e
-        rest (suc n) (suc k) = let e : n - k ≡ suc n - suc k = omega arith in rest n k ∙ ap (λ (j : ℕ). replicate {A = ℕ} j 0) e
+    stored-bytes l = rw (stored-number l) (clear-with room s l)
 
 -- ---- what build answers, row by row
 

@@ -14,5 +14,5 @@ pub tables-assembled : (h : Header) → HeaderFits h → (vertices records : Lis
 unfolding tablesOf
 tables-assembled h f vertices records v r =
     let s : List ℕ = assembled h vertices records in
-    (λ i. record { header = h; vertexAt = assembled-vertices h f vertices records v r i; recordAt = assembled-records h f vertices records v r i })
-    ∙ ap (λ (g : Header). tables g (layoutOf g) s s) (sym (assembled-header h f vertices records v r))
+    (λ i. record { header = h; vertexAt = assembled-vertices h vertices records v r i; recordAt = assembled-records h vertices records v r i })
+    ∙ ap (λ (g : Header). tables g (layoutOf g) s s) (sym (assembled-header h vertices records v r f))

@@ -172,6 +172,18 @@ clear-itself t n e = e ∙ ap (λ (k : ℕ). replicate {A = ℕ} k 0) (sym (ap l
 pub clear-long : (t : List ℕ) (n : ℕ) → t ≡ replicate n 0 → length t ≡ n
 clear-long t n e = ap length e ∙ length-replicate {A = ℕ} n 0
 
+-- What is put at the beginning of a clear buffer is followed by zeros.
+pub clear-with : (room : ℕ) (s : List ℕ) → length s ≤ room → sets (replicate room 0) 0 s ≡ s ++ replicate (room - length s) 0
+clear-with room s l =
+    sets-eq s (replicate room 0) 0 (rw (length-replicate {A = ℕ} room 0) (omega arith))
+    ∙ ap (λ (r : List ℕ). s ++ r) (rest room (0 + length s))
+    ∙ ap (λ (k : ℕ). s ++ replicate (room - k) 0) (zero-add (length s))
+  where
+    rest : (n k : ℕ) → drop {A = ℕ} k (replicate {A = ℕ} n 0) ≡ replicate {A = ℕ} (n - k) 0
+    rest n zero = let e : n ≡ n - 0 = omega arith in ap (λ (j : ℕ). replicate {A = ℕ} j 0) e
+    rest zero (suc k) = let e : 0 ≡ 0 - suc k = omega arith in ap (λ (j : ℕ). replicate {A = ℕ} j 0) e
+    rest (suc n) (suc k) = let e : n - k ≡ suc n - suc k = omega arith in rest n k ∙ ap (λ (j : ℕ). replicate {A = ℕ} j 0) e
+
 pub clear-next : (d : List ℕ) (i : ℕ) → i < length d → set (copied d 0 (replicate (length d) 0) i) i 0 ≡ copied d 0 (replicate (length d) 0) (i + 1)
 clear-next d i h =
     ap (λ (k : ℕ). set (copied d 0 (replicate (length d) 0) i) k 0) (sym (zero-add i)) ∙ cleared-next d 0 (length d) i 0 h

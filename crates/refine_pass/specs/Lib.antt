@@ -3,3 +3,4 @@ pub mod Passes
 pub mod Puts
 pub mod Steps
 pub mod Law
+pub mod Stays

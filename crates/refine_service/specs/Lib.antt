@@ -1,3 +1,4 @@
 -- Document 01, "Numbers we give back" and "Build and refine": what refine answers, for every input.
 pub mod Refine
-pub mod Rows
+pub mod Order
+pub mod Storing

@@ -6,7 +6,7 @@ use lib.ListN.{length, replicate}
 use lib.Dec.{eqb, ltb}
 use Rattle.laws.specs.Below.{listBelow}
 use Rattle.stored.specs.declared.Header.{Header}
-use Rattle.stored.specs.Layout.{limits, lastRound, headerOf, meshLength, Mesh, meshBytes, selectionOf, namedIn}
+use Rattle.stored.specs.Layout.{limits, lastRound, meshLength, Mesh, meshBytes, selectionOf, namedIn}
 use Rattle.check_refusals.specs.Tables.{Tables, tablesOf, allVertices, allRecords}
 use Rattle.check_refusals.specs.Check.{Row, row, rows, firstBroken}
 use Rattle.refine_selection.specs.Selected.{wrongSelectionLength, wrongSelectionMark, anotherJob, anotherRound, badNumbers, namesCut, namesLast, isNamed}
@@ -37,13 +37,11 @@ resultOf m =
       records = listBelow (allRecords m) (m .recordAt);
     }
 
--- Refusals 11 to 20, of the mesh, the selection and the output buffer's length.
-unfoldable pub selectionRows : List ℕ → List ℕ → ℕ → List Row
-selectionRows mesh selection room =
-    let h = headerOf mesh in
+-- Refusals 11 to 18, of the mesh and the selection.
+unfoldable pub selectionRows : Tables → List ℕ → List Row
+selectionRows m selection =
+    let h = m .header in
     let s = selectionOf selection in
-    let m = tablesOf mesh in
-    let c = closed mesh selection in
     row 11 (wrongSelectionLength selection)
     ∷ row 12 (wrongSelectionMark selection)
     ∷ row 13 (anotherJob h s)
@@ -52,13 +50,16 @@ selectionRows mesh selection room =
     ∷ row 16 (namesCut (m .recordAt) (s .count) (namedIn selection))
     ∷ row 17 (namesLast (m .recordAt) (s .count) (namedIn selection))
     ∷ row 18 (eqb (h .round) lastRound)
-    ∷ row 19 (exceeds limits (c .header))
-    ∷ row 20 (ltb room (meshLength (allVertices c) (allRecords c)))
     ∷ []
+
+-- Refusals 19 and 20, of the header after all passes and the output buffer's length.
+unfoldable pub resultRows : Header → ℕ → List Row
+resultRows h room = row 19 (exceeds limits h) ∷ row 20 (ltb room (meshLength (h .vertices) (h .records))) ∷ []
 
 -- "Refine gives 1 to 20": 1 to 10 are check's own.
 unfoldable pub refineNumber : List ℕ → List ℕ → ℕ → ℕ
-refineNumber mesh selection room = firstBroken (rows mesh ++ selectionRows mesh selection room)
+refineNumber mesh selection room =
+    firstBroken (rows mesh ++ selectionRows (tablesOf mesh) selection ++ resultRows (closed mesh selection .header) room)
 
 -- "After a refusal the output buffer is zero throughout; after acceptance it is zero past the result."
 unfoldable pub refineBytes : List ℕ → List ℕ → ℕ → List ℕ

@@ -1,1 +1,141 @@
-// The service refine, as definitions.
+// Refine: cuts the selected pieces, and what hangs then, until nothing does.
+use stored::Header;
+use stored::Layout;
+use stored::Limits;
+use stored::Selection;
+ghost use mathlib.Core.Path.{_≡_};
+ghost use Prim.Native.Nat.{_<_};
+ghost use lib.ListN.{length};
+ghost use Rattle.stored.specs.Layout.{limits, lastRound, namedIn};
+ghost use Rattle.check_refusals.specs.Tables.{tables};
+ghost use Rattle.check_refusals.specs.Check.{checkNumber};
+ghost use Rattle.refine_service.specs.Refine.{nextRound, refineNumber, refineBytes};
+ghost use Rattle.refine_service.specs.Order.{selectionNumber, namedNumber};
+ghost use Rattle.refine_service.specs.Storing.{Assembled, Copied, storedNumber, storedBytes, laterNumber, laterBytes};
+
+// Refusals 1 to 10 are check's own.
+fn judged(mesh: &[u8]) -> u32
+    ensures { λ r. ⌜ r ≡ checkNumber (now (mesh .entry)) ⌝ }
+{
+    let report = check_service::check(mesh);
+    report.number as u32
+}
+
+// Refusals 15 to 18, tried in their order, and 0 where none is broken.
+fn named<'a>(
+    h: Header,
+    l: Layout,
+    base: &'a [u8],
+    grown: &'a [u8],
+    selection: &'a [u8],
+    s: Selection,
+) -> u32
+    ensures { λ r. ⌜ r ≡ namedNumber (tables h l (now (base .entry)) (now (grown .entry))) (s .count) (namedIn (now (selection .entry))) ⌝ }
+{
+    let count = s.count as usize;
+    if refine_selection::bad_numbers(selection, h.records, count) {
+        return 15;
+    }
+    if refine_selection::names_cut(l, base, grown, selection, count) {
+        return 16;
+    }
+    if refine_selection::names_last(l, base, grown, selection, count) {
+        return 17;
+    }
+    if h.round == stored::LAST_ROUND {
+        return 18;
+    }
+    0
+}
+
+// Refusals 11 to 18.
+fn selected<'a>(h: Header, l: Layout, base: &'a [u8], grown: &'a [u8], selection: &'a [u8]) -> u32
+    ensures { λ r. ⌜ r ≡ selectionNumber (tables h l (now (base .entry)) (now (grown .entry))) (now (selection .entry)) ⌝ }
+{
+    if !stored_selections::right_selection_length(selection) {
+        return 11;
+    }
+    if !stored_selections::right_selection_mark(selection) {
+        return 12;
+    }
+    let s = stored_selections::selection_of(selection);
+    if refine_selection::another_job(h, s) {
+        return 13;
+    }
+    if refine_selection::another_round(h, s) {
+        return 14;
+    }
+    named(h, l, base, grown, selection, s)
+}
+
+fn next_round(h: Header) -> Header
+    requires { ⌜ h .round < lastRound ⌝ }
+    ensures { λ r. ⌜ r ≡ nextRound h ⌝ }
+{
+    Header {
+        job: h.job,
+        round: h.round + 1,
+        base_vertices: h.base_vertices,
+        vertices: h.vertices,
+        base_records: h.base_records,
+        records: h.records,
+    }
+}
+
+// Refusals 19 and 20, or the mesh.
+fn finish<'a>(most: Limits, h: Header, base: &'a [u8], grown: &'a [u8], out: &mut [u8]) -> u32
+    requires { ⌜ most ≡ limits ⌝ }
+    requires { ⌜ Assembled h (now base) (now grown) (now out) ⌝ }
+    ensures { λ r. ⌜ r ≡ storedNumber h (length (now (out .entry))) ⌝ }
+    ensures { λ _. ⌜ now (out .exit) ≡ storedBytes h (now (base .entry)) (now (grown .entry)) (length (now (out .entry))) ⌝ }
+{
+    if refine_pass::is_beyond(most, h) {
+        return 19;
+    }
+    if out.len() < stored_headers::mesh_length(h.vertices, h.records) {
+        return 20;
+    }
+    stored_written::put_mesh(out, next_round(h), base, grown);
+    0
+}
+
+// The passes are made aside, since there may be no room for what they leave.
+fn store(mesh: &[u8], h: Header, selection: &[u8], out: &mut [u8]) -> u32
+    requires { ⌜ Copied h (now mesh) (now out) ⌝ }
+    ensures { λ r. ⌜ r ≡ laterNumber (now (mesh .entry)) (now (selection .entry)) (length (now (out .entry))) ⌝ }
+    ensures { λ _. ⌜ now (out .exit) ≡ laterBytes (now (mesh .entry)) (now (selection .entry)) (length (now (out .entry))) ⌝ }
+{
+    let most = stored::limits_of_version_1();
+    let l = stored::working_layout(most.vertices + 1, most.records + 2);
+    let mut base = [0u8; stored::WORKING_VERTEX_BYTES];
+    let mut grown = [0u8; stored::WORKING_RECORD_BYTES];
+    stored_written::copy_tables(mesh, h, &mut base, &mut grown);
+    let s = stored_selections::selection_of(selection);
+    let with = refine_pass::refined(
+        most,
+        h,
+        l,
+        &mut base,
+        &mut grown,
+        selection,
+        s.count as usize,
+    );
+    finish(most, with, &base, &grown, out)
+}
+
+pub fn refine<'a>(mesh: &'a [u8], selection: &'a [u8], out: &mut [u8]) -> u32
+    ensures { λ r. ⌜ r ≡ refineNumber (now (mesh .entry)) (now (selection .entry)) (length (now (out .entry))) ⌝ }
+    ensures { λ _. ⌜ now (out .exit) ≡ refineBytes (now (mesh .entry)) (now (selection .entry)) (length (now (out .entry))) ⌝ }
+{
+    slices_written::clear(out);
+    let found = judged(mesh);
+    if found != 0 {
+        return found;
+    }
+    let h = stored_headers::header_of(mesh);
+    let refusal = selected(h, stored::layout_of(h), mesh, mesh, selection);
+    if refusal != 0 {
+        return refusal;
+    }
+    store(mesh, h, selection, out)
+}

@@ -234,6 +234,13 @@ working vertices records =
       records = record { count = 0; end = records; base = vertexWidth * vertices; grown = 0 };
     }
 
+-- The bytes of all vertices and of all records of a stored mesh with this header.
+unfoldable pub vertexPart : Header → List ℕ → List ℕ
+vertexPart h s = take (vertexWidth * h .vertices) (drop headerWidth s)
+
+unfoldable pub recordPart : Header → List ℕ → List ℕ
+recordPart h s = take (recordWidth * h .records) (drop (headerWidth + vertexWidth * h .vertices) s)
+
 -- The mesh with this header and the first of these vertices' and records' bytes.
 unfoldable pub assembled : Header → List ℕ → List ℕ → List ℕ
 assembled h vertices records =

@@ -7,3 +7,4 @@ pub mod Entries
 pub mod Tables
 pub mod Meshes
 pub mod Selections
+pub mod Worked

@@ -160,7 +160,7 @@ length-says s right =
 
 -- entry i of either table, where it lies within the bytes
 module _ (s : List ℕ) (b : Bytes s) (from i : ℕ) where
-  vertex-at : from + vertexWidth * i + vertexWidth ≤ length s → vertexBytes (vertexFrom (take vertexWidth (drop (vertexWidth * i) (drop from s)))) ≡ take vertexWidth (drop (vertexWidth * i) (drop from s))
+  pub vertex-at : from + vertexWidth * i + vertexWidth ≤ length s → vertexBytes (vertexFrom (take vertexWidth (drop (vertexWidth * i) (drop from s)))) ≡ take vertexWidth (drop (vertexWidth * i) (drop from s))
   vertex-at l =
       let t : List ℕ = drop (vertexWidth * i) (drop from s) in
       let long : vertexWidth ≤ length t = rw (length-drop (vertexWidth * i) (drop from s), length-drop from s) (omega arith) in
@@ -168,7 +168,7 @@ module _ (s : List ℕ) (b : Bytes s) (from i : ℕ) where
       vertex-written-again (take vertexWidth t) (bytes-take vertexWidth t (bytes-drop (vertexWidth * i) (drop from s) (bytes-drop from s b))) (omega arith)
       ∙ take-all vertexWidth (take vertexWidth t) (omega arith)
 
-  record-at : from + recordWidth * i + recordWidth ≤ length s → recordBytes (recordFrom (take recordWidth (drop (recordWidth * i) (drop from s)))) ≡ take recordWidth (drop (recordWidth * i) (drop from s))
+  pub record-at : from + recordWidth * i + recordWidth ≤ length s → recordBytes (recordFrom (take recordWidth (drop (recordWidth * i) (drop from s)))) ≡ take recordWidth (drop (recordWidth * i) (drop from s))
   record-at l =
       let t : List ℕ = drop (recordWidth * i) (drop from s) in
       let long : recordWidth ≤ length t = rw (length-drop (recordWidth * i) (drop from s), length-drop from s) (omega arith) in
@@ -214,7 +214,7 @@ assembled-put out h vertices records =
     ∙ sym (sets-append out 0 (header ++ first) then)
 
 -- An entry that lies within the front of t stands there too, whatever follows the front.
-front-entry : (w i n : ℕ) (t rest : List ℕ) → i < n → w * n ≤ length t → take w (drop (w * i) (take (w * n) t ++ rest)) ≡ take w (drop (w * i) t)
+pub front-entry : (w i n : ℕ) (t rest : List ℕ) → i < n → w * n ≤ length t → take w (drop (w * i) (take (w * n) t ++ rest)) ≡ take w (drop (w * i) t)
 front-entry w i n t rest l within =
     let next : w * i + w ≤ w * n = rw (← mul-suc w i) (mul-le-mul-left w l) in
     let long : length (take (w * n) t) ≡ w * n = length-take-le (w * n) t within in
@@ -222,7 +222,7 @@ front-entry w i n t rest l within =
     ∙ ap (drop (w * i)) (take-append-le (w * i + w) (take (w * n) t) rest (omega arith) ∙ take-take (w * i + w) (w * n) t next)
     ∙ drop-take (w * i) w t
 
-module _ (h : Header) (f : HeaderFits h) (vertices records : List ℕ) (long : vertexWidth * h .vertices ≤ length vertices) (deep : recordWidth * h .records ≤ length records) where
+module _ (h : Header) (vertices records : List ℕ) (long : vertexWidth * h .vertices ≤ length vertices) (deep : recordWidth * h .records ≤ length records) where
   abbrev whole : List ℕ
   whole = assembled h vertices records
 
@@ -232,9 +232,9 @@ module _ (h : Header) (f : HeaderFits h) (vertices records : List ℕ) (long : v
   abbrev recordPart : List ℕ
   recordPart = take (recordWidth * h .records) records
 
-  pub assembled-header : headerOf (assembled h vertices records) ≡ h
+  pub assembled-header : HeaderFits h → headerOf (assembled h vertices records) ≡ h
   unfolding assembled
-  assembled-header = ap headerOf (append-assoc (headerBytes h) vertexPart recordPart) ∙ header-again h f (vertexPart ++ recordPart)
+  assembled-header f = ap headerOf (append-assoc (headerBytes h) vertexPart recordPart) ∙ header-again h f (vertexPart ++ recordPart)
 
   front-wide : length (headerBytes h ++ vertexPart) ≡ headerWidth + vertexWidth * h .vertices
   front-wide = length-append (headerBytes h) vertexPart ∙ ap₂ _+_ (header-wide h) (length-take-le (vertexWidth * h .vertices) vertices long)

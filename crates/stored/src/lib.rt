@@ -27,6 +27,14 @@ pub const RECORD_BYTES: usize = RECORDS * RECORD_WIDTH;
 
 pub const LARGEST: usize = HEADER_WIDTH + VERTEX_BYTES + RECORD_BYTES;
 
+// To work on: one vertex and two records more, so that a cut that exceeds the limits has room too.
+pub const WORKING_VERTEX_BYTES: usize = (VERTICES + 1) * VERTEX_WIDTH;
+
+pub const WORKING_RECORD_BYTES: usize = (RECORDS + 2) * RECORD_WIDTH;
+
+// "the round is 65,535"
+pub const LAST_ROUND: u32 = 65535;
+
 // In memory, for no parent and for no child: no vertex and no record of any version has this number.
 pub const NONE: u32 = 4294967295;
 

@@ -7,7 +7,7 @@ use stored::Vertex;
 ghost use mathlib.Core.Path.{_≡_};
 ghost use Prim.Native.Nat.{_+_};
 ghost use lib.Seq.{sets};
-ghost use Rattle.stored.specs.Layout.{baseInto, grownInto, vertexBytes, recordBytes, assembled};
+ghost use Rattle.stored.specs.Layout.{baseInto, grownInto, vertexBytes, recordBytes, vertexPart, recordPart, assembled};
 
 // An entry's bytes, written from the table's beginning and the entry's place on.
 fn put_from(s: &mut [u8], from: usize, at: usize, bytes: &[u8])
@@ -68,4 +68,17 @@ pub fn put_mesh(out: &mut [u8], h: Header, vertices: &[u8], records: &[u8])
     slices_written::put(out, 0, &header);
     put_from(out, stored::HEADER_WIDTH, 0, first);
     put_from(out, stored::HEADER_WIDTH, first.len(), then);
+}
+
+// The vertices and the records of a stored mesh, each copied to the beginning of a slice of its own.
+pub fn copy_tables(mesh: &[u8], h: Header, base: &mut [u8], grown: &mut [u8])
+    ensures { λ _. ⌜ now (base .exit) ≡ sets (now (base .entry)) 0 (vertexPart h (now (mesh .entry))) ⌝ }
+    ensures { λ _. ⌜ now (grown .exit) ≡ sets (now (grown .entry)) 0 (recordPart h (now (mesh .entry))) ⌝ }
+{
+    let wide = stored::VERTEX_WIDTH * (h.vertices as usize);
+    let deep = stored::RECORD_WIDTH * (h.records as usize);
+    let vertices = slices::part(mesh, stored::HEADER_WIDTH, wide);
+    let records = slices::part(mesh, stored::HEADER_WIDTH + wide, deep);
+    slices_written::put(base, 0, vertices);
+    slices_written::put(grown, 0, records);
 }

@@ -38,7 +38,7 @@ returns-2 c =
     let j = c .before .before .before .judged in
     let found = j .ensures ∙ ap judgedNumber (ap (λ (l : Layout). tables (a .h) l v r) (c .before .before .before .before .working-layout .ensures) ∙ tables-assembled (a .h) (c .before .before .before .before .before .before .before .before .pre .fits) v r (c .before .before .before .before .before .before .before .before .pre .vertices-there) (c .before .before .before .before .before .before .before .before .pre .records-there)) in
     let none = sym found ∙ c .before .before .if1 .left in
-    let short : room < length s = omega (arith, c .if2 .taken, c .before .mesh-length .ensures, assembled-length (a .h) (c .before .before .before .before .before .before .before .before .pre .fits) v r (c .before .before .before .before .before .before .before .before .pre .vertices-there) (c .before .before .before .before .before .before .before .before .pre .records-there)) in
+    let short : room < length s = omega (arith, c .if2 .taken, c .before .mesh-length .ensures, assembled-length (a .h) v r (c .before .before .before .before .before .before .before .before .pre .vertices-there) (c .before .before .before .before .before .before .before .before .pre .records-there)) in
     (sym (full-number s room none short), c .before .before .before .before .before .before .before .before .pre .clear ∙ full-bytes s room none short)
 
 returns-3 : tie.Need-returns-3
@@ -51,7 +51,7 @@ returns-3 c =
     let j = c .before .before .before .before .before .before .before .judged in
     let found = j .ensures ∙ ap judgedNumber (ap (λ (l : Layout). tables (a .h) l v r) (c .before .before .before .before .before .before .before .before .working-layout .ensures) ∙ tables-assembled (a .h) (c .before .before .before .before .before .before .before .before .before .before .before .before .pre .fits) v r (c .before .before .before .before .before .before .before .before .before .before .before .before .pre .vertices-there) (c .before .before .before .before .before .before .before .before .before .before .before .before .pre .records-there)) in
     let none = sym found ∙ c .before .before .before .before .before .before .if1 .left in
-    let fits : length s ≤ room = omega (arith, c .before .before .before .before .if2 .left, c .before .before .before .before .before .mesh-length .ensures, assembled-length (a .h) (c .before .before .before .before .before .before .before .before .before .before .before .before .pre .fits) v r (c .before .before .before .before .before .before .before .before .before .before .before .before .pre .vertices-there) (c .before .before .before .before .before .before .before .before .before .before .before .before .pre .records-there)) in
+    let fits : length s ≤ room = omega (arith, c .before .before .before .before .if2 .left, c .before .before .before .before .before .mesh-length .ensures, assembled-length (a .h) v r (c .before .before .before .before .before .before .before .before .before .before .before .before .pre .vertices-there) (c .before .before .before .before .before .before .before .before .before .before .before .before .pre .records-there)) in
     (sym (stored-number s room none fits), c .before .before .put-mesh .ensures ∙ ap (λ (t : List ℕ). sets t 0 s) (c .before .before .before .before .before .before .before .before .before .before .before .before .pre .clear) ∙ stored-bytes s room none fits)
 
 pub finish-spec : {M : Type 1} → statement M

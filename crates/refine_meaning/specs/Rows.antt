@@ -23,7 +23,7 @@ use Rattle.check_refusals.specs.Check.{tableRows, rows, firstBroken}
 use Rattle.refine_selection.specs.Selected.{wrongSelectionLength, wrongSelectionMark, anotherJob, anotherRound, badNumber, badNumbers, namesCut, namesLast, isNamed}
 use Rattle.refine_cut.specs.Cut.{midpointOf, withMidpoint, withChildren, cutAt}
 use Rattle.refine_pass.specs.Passes.{exceeds, turn, passBelow, pass, closing, refined}
-use Rattle.refine_service.specs.Refine.{closed, resultOf, selectionRows, refineNumber, refineBytes}
+use Rattle.refine_service.specs.Refine.{closed, resultOf, selectionRows, resultRows, refineNumber, refineBytes}
 
 -- The vertex at these places with these parents. A coordinate's place is 32,768 more.
 abbrev vertex : ℕ → ℕ → ℕ → ℕ → ℕ → Vertex
@@ -88,5 +88,5 @@ pub record Rows : Type 0 where
   pub of-another-job : refineNumber K-cut (selecting 8 0 1 (0 ∷ [])) 121 ≡ 13
 
 pub rows-hold : Rows
-unfolding same foldBelow allBelow anyBelow countBelow sumBelow firstBelow listBelow joined number numberBytes lowSlot highSlot hasSlot otherEnd joins edgeBetween onFace opposite oppositeOn shares sharedSlot slotA slotB slotC slotD edgeCD otherMarksAre typeP setP unsetP markFits lowerEnd higherEnd endsOf sameSlot sameSlots samePiece newMark childFlag childMark childShape childOf cutOf coordinate coordinateOnGrid onGrid samePlace isHalfway halfwayOf minorOf determinantOf differenceOf differencesOf sixfoldOf marked markBytes rightMark rightLength headerOf headerBytes orNone storedOrNone heldIn vertexIn vertexFrom vertexBytes recordIn recordFrom recordBytes meshBytes rightSelectionMark rightSelectionLength selectionOf selectionBytes namedIn tablesOf hasParents vertexWith hangs sixfoldAt wrongLength wrongMark wrongCounts badVertices badVertex badBaseVertex placeTwice badMadeVertex pairTwice badBaseRecords badBaseRecord badPiece equalCorners cornerNotInBase badBaseMarks badMarks badBaseFaces badFaces badWith badTogether faceInThree faceBefore hasFace sameFace faceWithin faceHas sameCorners cornersWithin hasCorner twoMarks twoMarksOn sameMark sameEnds unusedVertices unusedVertex badCuts badRecord badCut badChildren isChildOf notChildOfOne tooDeep isMidpointOf noMidpoint hangsAt leafHangs hangingEdge tableRows rows firstBroken wrongSelectionLength wrongSelectionMark anotherJob anotherRound badNumber badNumbers namesCut namesLast isNamed midpointOf withMidpoint withChildren cutAt exceeds turn passBelow pass closing refined closed resultOf selectionRows refineNumber refineBytes
+unfolding same foldBelow allBelow anyBelow countBelow sumBelow firstBelow listBelow joined number numberBytes lowSlot highSlot hasSlot otherEnd joins edgeBetween onFace opposite oppositeOn shares sharedSlot slotA slotB slotC slotD edgeCD otherMarksAre typeP setP unsetP markFits lowerEnd higherEnd endsOf sameSlot sameSlots samePiece newMark childFlag childMark childShape childOf cutOf coordinate coordinateOnGrid onGrid samePlace isHalfway halfwayOf minorOf determinantOf differenceOf differencesOf sixfoldOf marked markBytes rightMark rightLength headerOf headerBytes orNone storedOrNone heldIn vertexIn vertexFrom vertexBytes recordIn recordFrom recordBytes meshBytes rightSelectionMark rightSelectionLength selectionOf selectionBytes namedIn tablesOf hasParents vertexWith hangs sixfoldAt wrongLength wrongMark wrongCounts badVertices badVertex badBaseVertex placeTwice badMadeVertex pairTwice badBaseRecords badBaseRecord badPiece equalCorners cornerNotInBase badBaseMarks badMarks badBaseFaces badFaces badWith badTogether faceInThree faceBefore hasFace sameFace faceWithin faceHas sameCorners cornersWithin hasCorner twoMarks twoMarksOn sameMark sameEnds unusedVertices unusedVertex badCuts badRecord badCut badChildren isChildOf notChildOfOne tooDeep isMidpointOf noMidpoint hangsAt leafHangs hangingEdge tableRows rows firstBroken wrongSelectionLength wrongSelectionMark anotherJob anotherRound badNumber badNumbers namesCut namesLast isNamed midpointOf withMidpoint withChildren cutAt exceeds turn passBelow pass closing refined closed resultOf selectionRows resultRows refineNumber refineBytes
 rows-hold = record { cut = refl; cut-bytes = refl; short = refl; expired = refl; of-another-job = refl }

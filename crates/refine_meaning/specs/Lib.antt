@@ -1,0 +1,2 @@
+-- What refine's answer means.
+pub mod Rows

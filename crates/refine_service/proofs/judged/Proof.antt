@@ -1,0 +1,23 @@
+-- `refine_service::judged`: the number that check returns is at most 10.
+-- Assumes nothing.
+use borrow.Author.Needs.{needs}
+use mathlib.Core.Path.{_≡_, ap, _∙_}
+use native.Mathlib.Omega.{arith}
+use denote.Ref.{now}
+use Rattle.check_refusals.specs.declared.Report.{Report}
+use Rattle.check_refusals.specs.Check.{checkNumber}
+use Rattle.refine_service.specs.Order.{check-small, report-number}
+use Rattle.refine_service.proofs.judged.Statement.{statement}
+use Rattle.refine_service.proofs.judged.Tie as tie
+
+cast-result : tie.Need-cast-result
+cast-result c =
+    let mesh = now (c .before .before .before .args .mesh) in
+    let is : c .before .check .result .number ≡ checkNumber mesh = ap (λ (r : Report). r .number) (c .before .check .ensures) ∙ report-number mesh in
+    omega (arith, check-small mesh)
+
+returns : tie.Need-returns
+returns c = let mesh = now (c .before .before .before .args .mesh) in ap (λ (r : Report). r .number) (c .before .check .ensures) ∙ report-number mesh
+
+pub judged-spec : {M : Type 1} → statement M
+judged-spec = tie.close (tie.spec (λ c κs. search needs) cast-result returns)

@@ -1,0 +1,254 @@
+-- How the tables are copied, worked on and stored.
+use mathlib.Core.Path.{_≡_, refl, sym, ap, _∙_, subst}
+use mathlib.Core.Bool.{Bool, true, false, cond}
+use mathlib.Core.Logic.{_≢_}
+use mathlib.Core.List.{List, _++_, append-assoc}
+use Prim.Native.Nat.{ℕ, zero, suc, _+_, _-_, _*_, _≤_, _<_}
+use native.Mathlib.Omega.{arith}
+use lib.ListN.{length, drop, replicate, length-replicate}
+use lib.Seq.{sets, length-sets}
+use lib.Dec.{eqb, ltb, lit<}
+use borrow.Author.Tests.{eqb-true, eqb-false, ltb-false, lt-ltb, le-ltb, not-false}
+use Rattle.laws.specs.Below.{or-left-false, or-right-false}
+use Rattle.laws.specs.Lists.{Bytes, bytes-none, bytes-cons, bytes-take, bytes-drop, bytes-sets, clear-with}
+use Rattle.laws.specs.Numbers.{number-below}
+use Rattle.stored.specs.declared.Header.{Header}
+use Rattle.stored.specs.declared.Layout.{Layout}
+use Rattle.stored.specs.Layout.{headerWidth, vertexWidth, recordWidth, limits, lastRound, headerOf, rightLength, meshLength, layoutOf, working, vertexPart, recordPart, assembled, meshBytes, selectionOf, namedIn}
+use Rattle.stored.specs.Meshes.{length-says, assembled-length}
+use Rattle.stored.specs.Tables.{working-holds}
+use Rattle.stored.specs.Worked.{copied-vertices, copied-records, assembled-mesh}
+use Rattle.check_refusals.specs.Tables.{Tables, tables, tablesOf}
+use Rattle.check_refusals.specs.Refusals.{wrongLength, wrongMark, wrongCounts}
+use Rattle.check_refusals.specs.Check.{rows, tableRows, firstBroken, checkNumber}
+use Rattle.check_refusals.specs.Bounded.{bounded}
+use Rattle.refine_selection.specs.Selected.{isNamed}
+use Rattle.refine_cut.specs.Slices.{slices, tablesIn}
+use Rattle.refine_pass.specs.Passes.{exceeds, refined}
+use Rattle.refine_pass.specs.Puts.{refinedPut}
+use Rattle.refine_pass.specs.Law.{Working, refined-tables, refined-working}
+use Rattle.refine_pass.specs.Stays.{round-stays}
+use Rattle.refine_service.specs.Refine.{closed, nextRound, resultOf, selectionRows, resultRows, refineNumber, refineBytes}
+use Rattle.refine_service.specs.Order.{selectionNumber, not-last, first-now, after-check, after-selection}
+
+-- Room for one vertex and two records more than there may be.
+abbrev pub work : Layout
+work = working (limits .vertices + 1) (limits .records + 2)
+
+-- ---- 19 and 20, of what the passes leave
+
+unfoldable pub storedNumber : Header → ℕ → ℕ
+storedNumber h room = firstBroken (resultRows h room)
+
+-- The bytes and zeros past them, or zeros throughout.
+abbrev pub outputOf : ℕ → ℕ → List ℕ → List ℕ
+outputOf number room bytes = let stored = bytes ++ replicate (room - length bytes) 0 in cond (eqb number 0) stored (replicate room 0)
+
+unfoldable pub storedBytes : Header → List ℕ → List ℕ → ℕ → List ℕ
+storedBytes h base grown room = outputOf (storedNumber h room) room (assembled (nextRound h) base grown)
+
+-- What is assembled: the slices are those to work on, the round can rise, and the output buffer is clear.
+pub record Assembled (h : Header) (base grown out : List ℕ) : Type 0 where
+  pub vertices-there : length base ≡ vertexWidth * (limits .vertices + 1)
+  pub records-there : length grown ≡ recordWidth * (limits .records + 2)
+  pub round : h .round < lastRound
+  pub clear : out ≡ replicate (length out) 0
+
+within : (h : Header) → exceeds limits h ≡ false → (h .vertices ≤ limits .vertices) × (h .records ≤ limits .records)
+unfolding exceeds
+within h e = (
+  ltb-false (limits .vertices) (h .vertices) (or-left-false (ltb (limits .vertices) (h .vertices)) (ltb (limits .records) (h .records)) e),
+  ltb-false (limits .records) (h .records) (or-right-false (ltb (limits .vertices) (h .vertices)) (ltb (limits .records) (h .records)) e),
+)
+
+module _ (h : Header) (base grown out : List ℕ) (a : Assembled h base grown out) where
+  refused-bytes : eqb (storedNumber h (length out)) 0 ≡ false → out ≡ storedBytes h base grown (length out)
+  unfolding storedBytes
+  refused-bytes e = rw e (a .clear)
+
+  pub stored-19 : exceeds limits h ≡ true → (19 ≡ storedNumber h (length out)) × (out ≡ storedBytes h base grown (length out))
+  unfolding storedNumber resultRows firstBroken
+  stored-19 e = let n : 19 ≡ storedNumber h (length out) = rw e in (n, refused-bytes (rw (← n)))
+
+  module _ (few : exceeds limits h ≡ false) where
+    pub stored-20 : length out < meshLength (h .vertices) (h .records) → (20 ≡ storedNumber h (length out)) × (out ≡ storedBytes h base grown (length out))
+    unfolding storedNumber resultRows firstBroken
+    stored-20 l = let n : 20 ≡ storedNumber h (length out) = rw (few, lt-ltb (length out) (meshLength (h .vertices) (h .records)) l) in (n, refused-bytes (rw (← n)))
+
+    pub stored-0 : meshLength (h .vertices) (h .records) ≤ length out → (0 ≡ storedNumber h (length out)) × (sets out 0 (assembled (nextRound h) base grown) ≡ storedBytes h base grown (length out))
+    unfolding storedNumber resultRows firstBroken storedBytes
+    stored-0 l =
+        let n : 0 ≡ storedNumber h (length out) = rw (few, le-ltb (length out) (meshLength (h .vertices) (h .records)) l) in
+        let (v, r) = within h few in
+        let long = assembled-length (nextRound h) base grown (omega (arith, a .vertices-there)) (omega (arith, a .records-there)) in
+        (n, rw (← n) (ap (λ (t : List ℕ). sets t 0 (assembled (nextRound h) base grown)) (a .clear) ∙ clear-with (length out) (assembled (nextRound h) base grown) (omega arith)))
+
+-- ---- the tables, copied and worked on
+
+-- What refine answers after 18.
+unfoldable pub laterNumber : List ℕ → List ℕ → ℕ → ℕ
+laterNumber mesh selection room = storedNumber (closed mesh selection .header) room
+
+unfoldable pub laterBytes : List ℕ → List ℕ → ℕ → List ℕ
+laterBytes mesh selection room = outputOf (laterNumber mesh selection room) room (meshBytes (resultOf (closed mesh selection)))
+
+-- What is copied: a mesh of the right length within the limits, whose round can rise; the output buffer is clear.
+pub record Copied (h : Header) (mesh out : List ℕ) : Type 0 where
+  pub header : h ≡ headerOf mesh
+  pub long : length mesh ≡ meshLength (h .vertices) (h .records)
+  pub vertices : h .vertices ≤ limits .vertices
+  pub records : h .records ≤ limits .records
+  pub round : h .round < lastRound
+  pub clear : out ≡ replicate (length out) 0
+
+-- Only what is stored is written.
+same-output : (number room : ℕ) (a b : List ℕ) → (number ≡ 0 → a ≡ b) → outputOf number room a ≡ outputOf number room b
+same-output number room a b same = go (eqb number 0) (λ e. same (eqb-true number 0 e))
+  where
+    go : (e : Bool) → (e ≡ true → a ≡ b) → cond e (a ++ replicate (room - length a) 0) (replicate room 0) ≡ cond e (b ++ replicate (room - length b) 0) (replicate room 0)
+    go true q = ap (λ (t : List ℕ). t ++ replicate (room - length t) 0) (q refl)
+    go false q = refl
+
+stored-few : (h : Header) (room : ℕ) → storedNumber h room ≡ 0 → exceeds limits h ≡ false
+unfolding storedNumber resultRows firstBroken
+stored-few h room e = go (exceeds limits h) (ltb room (meshLength (h .vertices) (h .records))) e
+  where
+    go : (a b : Bool) → _≡_ {A = ℕ} (cond a 19 (cond b 20 0)) 0 → a ≡ false
+    go false b q = refl
+    go true b q = absurd (omega arith)
+
+bytes-zeros : (n : ℕ) → Bytes (replicate n 0)
+bytes-zeros zero = bytes-none
+bytes-zeros (suc n) = bytes-cons (lit< tt) (bytes-zeros n)
+
+module _ (mesh selection out : List ℕ) (h : Header) (c : Copied h mesh out) where
+  abbrev pub copiedBase : List ℕ
+  copiedBase = sets (replicate (vertexWidth * (limits .vertices + 1)) 0) 0 (vertexPart h mesh)
+
+  abbrev pub copiedGrown : List ℕ
+  copiedGrown = sets (replicate (recordWidth * (limits .records + 2)) 0) 0 (recordPart h mesh)
+
+  abbrev chosen : ℕ → Bool
+  chosen = isNamed (selectionOf selection .count) (namedIn selection)
+
+  copied-tables : tables h work copiedBase copiedGrown ≡ tablesOf mesh
+  unfolding tablesOf
+  copied-tables =
+      let v : h .vertices ≤ limits .vertices + 1 = omega (arith, c .vertices) in
+      let r : h .records ≤ limits .records + 2 = omega (arith, c .records) in
+      (λ i. record {
+        header = h;
+        vertexAt = copied-vertices h mesh (c .long) (limits .vertices + 1) (limits .records + 2) v r i;
+        recordAt = copied-records h mesh (c .long) (limits .vertices + 1) (limits .records + 2) v r i;
+      })
+      ∙ ap (λ (g : Header). tables g (layoutOf g) mesh mesh) (c .header)
+
+  module _ (bytes : Bytes mesh) (with : Header) (base grown : List ℕ) (is : slices with base grown ≡ refinedPut limits work chosen (slices h copiedBase copiedGrown))
+      (long : length base ≡ vertexWidth * (limits .vertices + 1)) (deep : length grown ≡ recordWidth * (limits .records + 2)) where
+    vertex-bytes : Bytes (vertexPart h mesh)
+    unfolding vertexPart
+    vertex-bytes = bytes-take (vertexWidth * h .vertices) (drop headerWidth mesh) (bytes-drop headerWidth mesh bytes)
+
+    record-bytes : Bytes (recordPart h mesh)
+    unfolding recordPart
+    record-bytes = bytes-take (recordWidth * h .records) (drop (headerWidth + vertexWidth * h .vertices) mesh) (bytes-drop (headerWidth + vertexWidth * h .vertices) mesh bytes)
+
+    begun : Working limits work (slices h copiedBase copiedGrown)
+    begun =
+        record {
+          holds = working-holds (limits .vertices + 1) (limits .records + 2) copiedBase copiedGrown (omega (arith, length-sets (replicate (vertexWidth * (limits .vertices + 1)) 0) 0 (vertexPart h mesh), length-replicate {A = ℕ} (vertexWidth * (limits .vertices + 1)) 0)) (omega (arith, length-sets (replicate (recordWidth * (limits .records + 2)) 0) 0 (recordPart h mesh), length-replicate {A = ℕ} (recordWidth * (limits .records + 2)) 0));
+          bytes = (bytes-sets (replicate (vertexWidth * (limits .vertices + 1)) 0) 0 (vertexPart h mesh) (bytes-zeros (vertexWidth * (limits .vertices + 1))) vertex-bytes, bytes-sets (replicate (recordWidth * (limits .records + 2)) 0) 0 (recordPart h mesh) (bytes-zeros (recordWidth * (limits .records + 2))) record-bytes);
+          vertices = refl;
+          records = refl;
+          few-vertices = omega arith;
+          few-records = omega arith;
+        }
+
+    ended : Working limits work (slices with base grown)
+    ended = subst (Working limits work) (sym is) (refined-working limits work chosen (slices h copiedBase copiedGrown) begun)
+
+    worked : tables with work base grown ≡ closed mesh selection
+    unfolding closed
+    worked =
+        ap (tablesIn work) is
+        ∙ refined-tables limits work chosen (slices h copiedBase copiedGrown) begun
+        ∙ ap (refined limits chosen) copied-tables
+
+    round-same : with .round ≡ h .round
+    unfolding closed tablesOf
+    round-same = (λ i. worked i .header .round) ∙ round-stays limits chosen (tablesOf mesh) ∙ sym (ap (λ (k : Header). k .round) (c .header))
+
+    pub worked-assembled : Assembled with base grown out
+    worked-assembled = record { vertices-there = long; records-there = deep; round = omega (arith, round-same, c .round); clear = c .clear }
+
+    pub later-number : (room : ℕ) → storedNumber with room ≡ laterNumber mesh selection room
+    unfolding laterNumber
+    later-number room = λ i. storedNumber (worked i .header) room
+
+    pub later-bytes : (room : ℕ) → storedBytes with base grown room ≡ laterBytes mesh selection room
+    unfolding storedBytes laterBytes laterNumber resultOf
+    later-bytes room =
+        same-output (storedNumber with room) room (assembled (nextRound with) base grown) (meshBytes (resultOf (tables with work base grown)))
+        (λ e. let (v, r) = within with (stored-few with room e) in
+        assembled-mesh (nextRound with) (limits .vertices + 1) (limits .records + 2) (omega arith) (omega arith) base grown (ended .bytes .0) (ended .bytes .1) long deep)
+        ∙ ap (λ (m : Tables). outputOf (storedNumber (m .header) room) room (meshBytes (resultOf m))) worked
+
+-- ---- what refine answers, part by part
+
+module _ (mesh selection : List ℕ) (room : ℕ) where
+  refused : eqb (refineNumber mesh selection room) 0 ≡ false → replicate room 0 ≡ refineBytes mesh selection room
+  unfolding refineBytes
+  refused e = rw e
+
+  refine-parts : refineNumber mesh selection room ≡ firstBroken (rows mesh ++ (selectionRows (tablesOf mesh) selection ++ resultRows (closed mesh selection .header) room))
+  unfolding refineNumber
+  refine-parts = ap firstBroken (append-assoc (rows mesh) (selectionRows (tablesOf mesh) selection) (resultRows (closed mesh selection .header) room))
+
+  pub refine-judged : eqb (checkNumber mesh) 0 ≡ false → (checkNumber mesh ≡ refineNumber mesh selection room) × (replicate room 0 ≡ refineBytes mesh selection room)
+  unfolding checkNumber
+  refine-judged e =
+      let n : checkNumber mesh ≡ refineNumber mesh selection room = sym (refine-parts ∙ first-now (rows mesh) (selectionRows (tablesOf mesh) selection ++ resultRows (closed mesh selection .header) room) e) in
+      (n, refused (rw (← n) e))
+
+  module _ (accepted : checkNumber mesh ≡ 0) where
+    pub refine-selected : eqb (selectionNumber (tablesOf mesh) selection) 0 ≡ false → (selectionNumber (tablesOf mesh) selection ≡ refineNumber mesh selection room) × (replicate room 0 ≡ refineBytes mesh selection room)
+    unfolding selectionNumber
+    refine-selected e =
+        let n : selectionNumber (tablesOf mesh) selection ≡ refineNumber mesh selection room =
+        sym (refine-parts ∙ after-check mesh (selectionRows (tablesOf mesh) selection ++ resultRows (closed mesh selection .header) room) accepted
+        ∙ first-now (selectionRows (tablesOf mesh) selection) (resultRows (closed mesh selection .header) room) e) in
+        (n, refused (rw (← n) e))
+
+    module _ (right : selectionNumber (tablesOf mesh) selection ≡ 0) where
+      pub refine-later : laterNumber mesh selection room ≡ refineNumber mesh selection room
+      unfolding laterNumber storedNumber
+      refine-later =
+          sym (refine-parts ∙ after-check mesh (selectionRows (tablesOf mesh) selection ++ resultRows (closed mesh selection .header) room) accepted
+          ∙ after-selection (tablesOf mesh) selection (resultRows (closed mesh selection .header) room) right)
+
+      pub refine-later-bytes : laterBytes mesh selection room ≡ refineBytes mesh selection room
+      unfolding laterBytes refineBytes
+      refine-later-bytes = rw refine-later
+
+-- What acceptance by check and a selection that can be used say of the mesh.
+pub copied-ready : (mesh selection out : List ℕ) → Bytes mesh → checkNumber mesh ≡ 0 → selectionNumber (tablesOf mesh) selection ≡ 0 → out ≡ replicate (length out) 0 → Copied (headerOf mesh) mesh out
+unfolding checkNumber rows firstBroken headerOf wrongLength tablesOf
+copied-ready mesh selection out bytes e right clear =
+    go (wrongLength mesh) (wrongMark mesh) (wrongCounts limits (headerOf mesh)) refl refl e
+  where
+    below : headerOf mesh .round < 65536
+    below = number-below 2 (drop 9 mesh) (bytes-drop 9 mesh bytes)
+
+    long : wrongLength mesh ≡ false → length mesh ≡ meshLength (headerOf mesh .vertices) (headerOf mesh .records)
+    long w = length-says mesh (not-false (rightLength mesh) w) .1
+
+    last : headerOf mesh .round ≢ lastRound
+    last = eqb-false (headerOf mesh .round) lastRound (not-last (tablesOf mesh) selection right)
+
+    go : (a b d : Bool) → wrongLength mesh ≡ a → wrongCounts limits (headerOf mesh) ≡ d → _≡_ {A = ℕ} (cond a 1 (cond b 2 (cond d 3 (firstBroken (tableRows (tablesOf mesh)))))) 0 → Copied (headerOf mesh) mesh out
+    go true b d p q z = absurd (omega arith)
+    go false true d p q z = absurd (omega arith)
+    go false false true p q z = absurd (omega arith)
+    go false false false p q z =
+        let few = bounded (headerOf mesh) q in
+        record { header = refl; long = long p; vertices = few .vertices; records = few .records; round = omega (arith, below, last); clear = clear }
