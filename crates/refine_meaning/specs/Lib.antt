@@ -1,2 +1,3 @@
 -- What refine's answer means.
+pub mod Answer
 pub mod Rows

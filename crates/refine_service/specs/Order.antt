@@ -16,7 +16,7 @@ use Rattle.refine_service.specs.Refine.{selectionRows}
 -- ---- rows after rows
 
 -- Every row has a number from 1 to k.
-numberedTo : ℕ → List Row → Bool
+unfoldable pub numberedTo : ℕ → List Row → Bool
 numberedTo k [] = true
 numberedTo k (r ∷ rest) = (not (eqb (r .number) 0) && leb (r .number) k) && numberedTo k rest
 
@@ -43,7 +43,7 @@ first-later k (r ∷ a) b n e = go (r .broken) (λ m q. first-later k a b m q) e
     go true rest q = let z : not (eqb 0 0) ≡ true = ap (λ (j : ℕ). not (eqb j 0)) (sym q) ∙ numbered in let y : _≡_ {A = ℕ} 0 1 = cc in absurd (omega arith)
     go false rest q = rest (and-right (not (eqb (r .number) 0) && leb (r .number) k) (numberedTo k a) n) q
 
-first-at-most : (k : ℕ) (a : List Row) → numberedTo k a ≡ true → firstBroken a ≤ k
+pub first-at-most : (k : ℕ) (a : List Row) → numberedTo k a ≡ true → firstBroken a ≤ k
 unfolding firstBroken numberedTo
 first-at-most k [] n = omega arith
 first-at-most k (r ∷ a) n = go (r .broken) (λ m. first-at-most k a m)

@@ -1,0 +1,71 @@
+-- What refine's answer says, for every mesh, every selection and every length of the output buffer.
+use mathlib.Core.Path.{_≡_, refl, sym, ap, _∙_}
+use mathlib.Core.Bool.{true, false}
+use mathlib.Core.List.{List, _++_}
+use Prim.Native.Nat.{ℕ, _+_, _-_, _≤_}
+use native.Mathlib.Omega.{arith}
+use lib.ListN.{length, replicate}
+use lib.Dec.{eqb}
+use Rattle.stored.specs.Layout.{limits, headerOf, meshBytes, rightSelectionLength, rightSelectionMark, selectionOf, namedIn}
+use Rattle.check_refusals.specs.Tables.{tablesOf}
+use Rattle.check_refusals.specs.Check.{rows, tableRows, firstBroken, checkNumber}
+use Rattle.refine_selection.specs.Selected.{anotherJob, anotherRound, isNamed}
+use Rattle.refine_pass.specs.Stays.{job-stays, round-stays, base-vertices-stay, base-records-stay}
+use Rattle.refine_service.specs.Refine.{closed, resultOf, selectionRows, resultRows, refineNumber, refineBytes}
+use Rattle.refine_service.specs.Order.{numberedTo, first-at-most, selectionNumber, selection-13, selection-14}
+use Rattle.refine_service.specs.Storing.{refine-selected}
+
+module _ (mesh selection : List ℕ) (room : ℕ) where
+  -- "Refine gives 1 to 20", or 0.
+  pub number-at-most : refineNumber mesh selection room ≤ 20
+  unfolding refineNumber numberedTo rows tableRows selectionRows resultRows
+  number-at-most = first-at-most 20 (rows mesh ++ selectionRows (tablesOf mesh) selection ++ resultRows (closed mesh selection .header) room) refl
+
+  -- "After a refusal the output buffer is zero throughout"
+  pub refused-bytes : eqb (refineNumber mesh selection room) 0 ≡ false → refineBytes mesh selection room ≡ replicate room 0
+  unfolding refineBytes
+  refused-bytes e = rw e
+
+  -- "after acceptance it is zero past the result."
+  pub accepted-bytes : refineNumber mesh selection room ≡ 0 →
+      refineBytes mesh selection room ≡ meshBytes (resultOf (closed mesh selection)) ++ replicate (room - length (meshBytes (resultOf (closed mesh selection)))) 0
+  unfolding refineBytes
+  accepted-bytes e = rw e
+
+  -- One outcome for each input.
+  pub refine-unique : (n k : ℕ) (s t : List ℕ) → n ≡ refineNumber mesh selection room → s ≡ refineBytes mesh selection room →
+      k ≡ refineNumber mesh selection room → t ≡ refineBytes mesh selection room → (n ≡ k) × (s ≡ t)
+  refine-unique n k s t a b c d = (a ∙ sym c, b ∙ sym d)
+
+  -- On an accepted mesh a whole selection of another job gets 13, whatever else it says.
+  module _ (accepted : checkNumber mesh ≡ 0) (whole : rightSelectionLength selection ≡ true) (marked : rightSelectionMark selection ≡ true) where
+    pub another-job-refused : anotherJob (headerOf mesh) (selectionOf selection) ≡ true → refineNumber mesh selection room ≡ 13
+    unfolding tablesOf
+    another-job-refused e =
+        let found : 13 ≡ selectionNumber (tablesOf mesh) selection = selection-13 (tablesOf mesh) selection whole marked e in
+        sym (found ∙ refine-selected mesh selection room accepted (rw (← found)) .0)
+
+    -- And one of this job and another round 14: a choice is dead as soon as a refinement is accepted.
+    pub another-round-refused : anotherJob (headerOf mesh) (selectionOf selection) ≡ false → anotherRound (headerOf mesh) (selectionOf selection) ≡ true → refineNumber mesh selection room ≡ 14
+    unfolding tablesOf
+    another-round-refused j e =
+        let found : 14 ≡ selectionNumber (tablesOf mesh) selection = selection-14 (tablesOf mesh) selection whole marked j e in
+        sym (found ∙ refine-selected mesh selection room accepted (rw (← found)) .0)
+
+-- "The round rises by 1"; the job and the base counts stay.
+module _ (mesh selection : List ℕ) where
+  pub job-kept : resultOf (closed mesh selection) .header .job ≡ headerOf mesh .job
+  unfolding resultOf closed tablesOf
+  job-kept = job-stays limits (isNamed (selectionOf selection .count) (namedIn selection)) (tablesOf mesh)
+
+  pub round-next : resultOf (closed mesh selection) .header .round ≡ headerOf mesh .round + 1
+  unfolding resultOf closed tablesOf
+  round-next = ap (λ (r : ℕ). r + 1) (round-stays limits (isNamed (selectionOf selection .count) (namedIn selection)) (tablesOf mesh))
+
+  pub base-vertices-kept : resultOf (closed mesh selection) .header .«base_vertices» ≡ headerOf mesh .«base_vertices»
+  unfolding resultOf closed tablesOf
+  base-vertices-kept = base-vertices-stay limits (isNamed (selectionOf selection .count) (namedIn selection)) (tablesOf mesh)
+
+  pub base-records-kept : resultOf (closed mesh selection) .header .«base_records» ≡ headerOf mesh .«base_records»
+  unfolding resultOf closed tablesOf
+  base-records-kept = base-records-stay limits (isNamed (selectionOf selection .count) (namedIn selection)) (tablesOf mesh)
