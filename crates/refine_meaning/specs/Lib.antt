@@ -1,3 +1,4 @@
 -- What refine's answer means.
 pub mod Answer
+pub mod Kept
 pub mod Rows

@@ -29,7 +29,7 @@ use Rattle.refine_pass.specs.Puts.{turnPut, turnsPut, passPut, hangsSinc
 
 -- ---- what a cut leaves as it was
 
-other-number : {A : Type 0} (i k : ℕ) (x : A) (f : ℕ → A) → k ≢ i → putAt i x f k ≡ f k
+pub other-number : {A : Type 0} (i k : ℕ) (x : A) (f : ℕ → A) → k ≢ i → putAt i x f k ≡ f k
 other-number i k x f ne = rw (ne-eqb k i ne)
 
 module _ (m : Tables) (n : ℕ) where
@@ -37,7 +37,7 @@ module _ (m : Tables) (n : ℕ) where
   ends-n = refinementEnds (pieceAt m n)
 
   -- With the midpoint: old vertices and all records stay, and at most one vertex is appended.
-  midpoint-keeps : (withMidpoint m ends-n .recordAt ≡ m .recordAt) × (allRecords (withMidpoint m ends-n) ≡ allRecords m) × (allVertices m ≤ allVertices (withMidpoint m ends-n)) × ((v : ℕ) → v < allVertices m → withMidpoint m ends-n .vertexAt v ≡ m .vertexAt v)
+  pub midpoint-keeps : (withMidpoint m ends-n .recordAt ≡ m .recordAt) × (allRecords (withMidpoint m ends-n) ≡ allRecords m) × (allVertices m ≤ allVertices (withMidpoint m ends-n)) × ((v : ℕ) → v < allVertices m → withMidpoint m ends-n .vertexAt v ≡ m .vertexAt v)
   unfolding withMidpoint
   midpoint-keeps = go (eqb (vertexWith m ends-n) (allVertices m))
     where

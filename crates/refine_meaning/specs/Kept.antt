@@ -1,0 +1,160 @@
+-- What refine leaves as it was: vertices and pieces that are there keep their number; an empty selection changes the round alone.
+use mathlib.Core.Path.{_≡_, refl, sym, ap, _∙_}
+use mathlib.Core.Bool.{Bool, true, false, not, cond, _&&_}
+use mathlib.Core.Logic.{⊎-elim}
+use mathlib.Core.List.{List}
+use Prim.Native.Nat.{ℕ, zero, suc, _+_, _≤_, _<_}
+use native.Mathlib.Nat.{le-refl}
+use native.Mathlib.Omega.{arith}
+use lib.Dec.{eqb}
+use borrow.Author.Tests.{eqb-true, eqb-false, eq-eqb}
+use Rattle.laws.specs.Below.{either, putAt, any-none}
+use Rattle.piece_cut.specs.Cut.{cutOf}
+use Rattle.stored.specs.declared.Limits.{Limits}
+use Rattle.stored.specs.declared.Record.{Record}
+use Rattle.stored.specs.Layout.{limits, selectionOf, namedIn}
+use Rattle.check_refusals.specs.Tables.{Tables, tablesOf, allVertices, allRecords, pieceAt, vertexWith, refinementEnds}
+use Rattle.check_refusals.specs.Refusals.{wrongLength, wrongMark, wrongCounts, badVertices, badBaseRecords, badBaseMarks, badBaseFaces, unusedVertices, badCuts, leafHangs, hangingEdge}
+use Rattle.check_refusals.specs.Check.{rows, tableRows, firstBroken, checkNumber}
+use Rattle.stored.specs.Layout.{headerOf}
+use Rattle.refine_selection.specs.Selected.{isNamed}
+use Rattle.refine_cut.specs.Cut.{withMidpoint, withChildren, cutRecord, leafRecord, cutAt}
+use Rattle.refine_pass.specs.Passes.{exceeds, turn, passBelow, pass, closing, refined}
+use Rattle.refine_pass.specs.Law.{other-number, midpoint-keeps, cut-record-count, cut-vertex-count, cut-vertices-stay, cut-records-stay}
+use Rattle.refine_service.specs.Refine.{closed}
+
+-- ---- vertices and pieces stay
+
+-- t has the vertices and the pieces of m under their numbers.
+pub record Keeps (m t : Tables) : Type 0 where
+  pub vertices : allVertices m ≤ allVertices t
+  pub records : allRecords m ≤ allRecords t
+  pub vertexAt : (v : ℕ) → v < allVertices m → t .vertexAt v ≡ m .vertexAt v
+  pub pieceAt : (k : ℕ) → k < allRecords m → t .recordAt k .piece ≡ m .recordAt k .piece
+
+keeps-itself : (m : Tables) → Keeps m m
+keeps-itself m = record { vertices = le-refl (allVertices m); records = le-refl (allRecords m); vertexAt = λ v l. refl; pieceAt = λ k l. refl }
+
+keeps-then : (m t u : Tables) → Keeps m t → Keeps t u → Keeps m u
+keeps-then m t u a b =
+    record {
+      vertices = omega (arith, a .vertices, b .vertices);
+      records = omega (arith, a .records, b .records);
+      vertexAt = λ v l. b .vertexAt v (omega (arith, a .vertices)) ∙ a .vertexAt v l;
+      pieceAt = λ k l. b .pieceAt k (omega (arith, a .records)) ∙ a .pieceAt k l;
+    }
+
+-- The record that is cut keeps its piece.
+module _ (m : Tables) (n : ℕ) (there : n < allRecords m) where
+  abbrev half : Tables
+  half = withMidpoint m (refinementEnds (pieceAt m n))
+
+  cut-piece : cutAt m n .recordAt n .piece ≡ m .recordAt n .piece
+  unfolding cutAt withChildren
+  cut-piece =
+      let count = midpoint-keeps m n .1 in
+      let w : ℕ = vertexWith m (refinementEnds (pieceAt m n)) in
+      let first : ℕ = allRecords half in
+      let cut : ℕ → Record = putAt n (cutRecord (pieceAt half n) first) (half .recordAt) in
+      let one : ℕ → Record = putAt first (leafRecord (cutOf (pieceAt half n) w .first)) cut in
+      let self : putAt n (cutRecord (pieceAt half n) first) (half .recordAt) n ≡ cutRecord (pieceAt half n) first = rw (eq-eqb n n refl) in
+      ap (λ (r : Record). r .piece)
+      (other-number (first + 1) n (leafRecord (cutOf (pieceAt half n) w .second)) one (λ e. omega arith)
+      ∙ other-number first n (leafRecord (cutOf (pieceAt half n) w .first)) cut (λ e. omega arith)
+      ∙ self)
+      ∙ (λ i. midpoint-keeps m n .0 i n .piece)
+
+  cut-keeps : Keeps m (cutAt m n)
+  cut-keeps =
+      record {
+        vertices = cut-vertex-count m n;
+        records = omega (arith, cut-record-count m n);
+        vertexAt = cut-vertices-stay m n;
+        pieceAt = λ k l.
+            ⊎-elim
+            (λ t. let e = eqb-true k n t in ap (λ (j : ℕ). cutAt m n .recordAt j .piece) e ∙ cut-piece ∙ ap (λ (j : ℕ). m .recordAt j .piece) (sym e))
+            (λ f. ap (λ (r : Record). r .piece) (cut-records-stay m n k l (eqb-false k n f)))
+            (either (eqb k n));
+      }
+
+either-keeps : (b : Bool) (m t u : Tables) → Keeps m t → Keeps m u → Keeps m (cond b t u)
+either-keeps true m t u p q = p
+either-keeps false m t u p q = q
+
+module _ (most : Limits) where
+  below-keeps : (chosen : ℕ → Bool) (n : ℕ) (m : Tables) → n ≤ allRecords m → Keeps m (passBelow most chosen n m)
+  unfolding passBelow turn
+  below-keeps chosen zero m l = keeps-itself m
+  below-keeps chosen (suc n) m l =
+      let t : Tables = passBelow most chosen n m in
+      let k : Keeps m t = below-keeps chosen n m (omega arith) in
+      either-keeps (chosen n && not (exceeds most (t .header))) m (cutAt t n) t (keeps-then m t (cutAt t n) k (cut-keeps t n (omega (arith, k .records)))) k
+
+  pass-keeps : (chosen : ℕ → Bool) (m : Tables) → Keeps m (pass most chosen m)
+  unfolding pass
+  pass-keeps chosen m = below-keeps chosen (allRecords m) m (le-refl (allRecords m))
+
+  closing-keeps : (passes : ℕ) (m : Tables) → Keeps m (closing most passes m)
+  unfolding closing
+  closing-keeps zero m = keeps-itself m
+  closing-keeps (suc passes) m =
+      let t : Tables = pass most (leafHangs m) m in
+      either-keeps (hangingEdge m && not (exceeds most (m .header))) m (closing most passes t) m (keeps-then m t (closing most passes t) (pass-keeps (leafHangs m) m) (closing-keeps passes t)) (keeps-itself m)
+
+  refined-keeps : (chosen : ℕ → Bool) (m : Tables) → Keeps m (refined most chosen m)
+  unfolding refined
+  refined-keeps chosen m = keeps-then m (pass most chosen m) (closing most (most .records) (pass most chosen m)) (pass-keeps chosen m) (closing-keeps (most .records) (pass most chosen m))
+
+-- "Entries already there keep their number", for every mesh and every selection.
+pub closed-keeps : (mesh selection : List ℕ) → Keeps (tablesOf mesh) (closed mesh selection)
+unfolding closed
+closed-keeps mesh selection = refined-keeps limits (isNamed (selectionOf selection .count) (namedIn selection)) (tablesOf mesh)
+
+-- ---- an empty selection
+
+-- A pass that chooses nothing cuts nothing.
+nothing-cut : (most : Limits) (chosen : ℕ → Bool) → ((k : ℕ) → chosen k ≡ false) → (n : ℕ) (m : Tables) → passBelow most chosen n m ≡ m
+unfolding passBelow turn
+nothing-cut most chosen none zero m = refl
+nothing-cut most chosen none (suc n) m = rw (none n) (nothing-cut most chosen none n m)
+
+-- Where nothing hangs the closing is over.
+closing-over : (most : Limits) (passes : ℕ) (m : Tables) → hangingEdge m ≡ false → closing most passes m ≡ m
+unfolding closing
+closing-over most zero m e = refl
+closing-over most (suc passes) m e = rw e
+
+-- In a mesh that check accepts nothing hangs.
+nothing-hangs : (s : List ℕ) → checkNumber s ≡ 0 → hangingEdge (tablesOf s) ≡ false
+unfolding checkNumber rows tableRows firstBroken
+nothing-hangs s e =
+    let m = tablesOf s in
+    go (wrongLength s) (wrongMark s) (wrongCounts limits (headerOf s)) (badVertices m) (badBaseRecords m) (badBaseMarks m) (badBaseFaces m) (unusedVertices m) (badCuts m) (hangingEdge m) e
+  where
+    go : (a b c d f g h i j k : Bool) → _≡_ {A = ℕ} (cond a 1 (cond b 2 (cond c 3 (cond d 4 (cond f 5 (cond g 6 (cond h 7 (cond i 8 (cond j 9 (cond k 10 0)))))))))) 0 → k ≡ false
+    go a b c d f g h i j false q = refl
+    go true b c d f g h i j true q = absurd (omega arith)
+    go false true c d f g h i j true q = absurd (omega arith)
+    go false false true d f g h i j true q = absurd (omega arith)
+    go false false false true f g h i j true q = absurd (omega arith)
+    go false false false false true g h i j true q = absurd (omega arith)
+    go false false false false false true h i j true q = absurd (omega arith)
+    go false false false false false false true i j true q = absurd (omega arith)
+    go false false false false false false false true j true q = absurd (omega arith)
+    go false false false false false false false false true true q = absurd (omega arith)
+    go false false false false false false false false false true q = absurd (omega arith)
+
+-- "an empty selection is a round": the tables are those of the mesh, so that the round alone is another.
+pub empty-changes-nothing : (mesh selection : List ℕ) → checkNumber mesh ≡ 0 → selectionOf selection .count ≡ 0 → closed mesh selection ≡ tablesOf mesh
+unfolding closed refined pass isNamed
+empty-changes-nothing mesh selection accepted empty =
+    let m : Tables = tablesOf mesh in
+    let chosen : ℕ → Bool = isNamed (selectionOf selection .count) (namedIn selection) in
+    ap (closing limits (limits .records)) (nothing-cut limits chosen (none-named (selectionOf selection .count) (namedIn selection) empty) (allRecords m) m)
+    ∙ closing-over limits (limits .records) m (nothing-hangs mesh accepted)
+  where
+    named-none : (named : ℕ → ℕ) (k : ℕ) → isNamed 0 named k ≡ false
+    named-none named k = any-none (λ i. eqb (named i) k)
+
+    none-named : (count : ℕ) (named : ℕ → ℕ) → count ≡ 0 → (k : ℕ) → isNamed count named k ≡ false
+    none-named count named e k = ap (λ (c : ℕ). isNamed c named k) e ∙ named-none named k
