@@ -285,6 +285,26 @@ pub fn thinned(plain: Plain, random: &mut Random, percent: usize) -> Plain {
     thin
 }
 
+/// A ladder: crossed rungs, and between each two a piece. Marked as `LADDER` says, each piece hangs as soon as
+/// the one before it is cut (type O), and brings a vertex.
+pub fn ladder(pieces: u16) -> Plain {
+    let mut plain = Plain::default();
+    for rung in 0..=pieces as i16 {
+        let z = 32 * rung;
+        plain.places.extend(match rung % 2 {
+            0 => [[-32, 0, z], [32, 0, z]],
+            _ => [[0, -32, z], [0, 32, z]],
+        });
+    }
+    for rung in 0..pieces {
+        plain.pieces.push([0, 1, 2, 3].map(|n| 2 * rung + n));
+    }
+    plain
+}
+
+/// The refinement edge and the marks of each of a ladder's pieces.
+pub const LADDER: (u8, [u8; 4]) = (5, [5, 5, 0, 0]);
+
 /// So many pieces like K that share nothing, at most 256.
 pub fn separate(pieces: usize) -> Plain {
     let mut plain = Plain::default();

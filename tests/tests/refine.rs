@@ -3,8 +3,8 @@
 
 use compared::damage::damaged;
 use compared::meshes::{
-    chosen_anyhow, cubes, cut_alone, deepened, filled, open_leaves, random_base, separate,
-    single_pieces, Plain, K,
+    chosen_anyhow, cubes, cut_alone, deepened, filled, ladder, open_leaves, random_base, separate,
+    single_pieces, Plain, K, LADDER,
 };
 use compared::random::Random;
 use compared::renumber::renumbered;
@@ -237,7 +237,8 @@ type Part = fn(&mut Tally, &mut Random);
 
 /// The parts that go through a list of inputs, and each part of random inputs with the times it is done,
 /// each time with numbers of its own.
-const LISTED: [Part; 11] = [
+const LISTED: [Part; 12] = [
+    long_ladder,
     full_records,
     full_tables,
     full_vertices,
@@ -543,40 +544,37 @@ fn full_vertices(tally: &mut Tally, random: &mut Random) {
     tally.given("18 before 19", &Input::new(&last, &[0]), 18, random);
 }
 
-/// The selected record alone would fit: closing a chain of pieces fills the vertices. Each piece of the
-/// chain hangs as soon as the one before is cut (type O), and brings a vertex; other pieces stand apart.
+/// The selected record alone would fit: closing a ladder fills the vertices; other pieces stand apart.
 fn full_by_closing(tally: &mut Tally, random: &mut Random) {
     let rungs = 10;
     for (apart, number) in [(248, 0), (249, 19)] {
-        let mut plain = Plain::default();
-        for rung in 0..=rungs {
-            let z = 32 * rung;
-            plain.places.extend(match rung % 2 {
-                0 => [[-32, 0, z], [32, 0, z]],
-                _ => [[0, -32, z], [0, 32, z]],
-            });
-        }
-        for rung in 0..rungs as u16 {
-            plain.pieces.push([0, 1, 2, 3].map(|n| 2 * rung + n));
-        }
+        let mut plain = ladder(rungs);
         let others = separate(apart);
         let first = plain.places.len() as u16;
         plain.places.extend(others.places);
         let moved = others.pieces.iter().map(|piece| piece.map(|n| first + n));
         plain.pieces.extend(moved);
-        let mut markings = vec![(5, [5, 5, 0, 0]); rungs as usize];
+        let mut markings = vec![LADDER; usize::from(rungs)];
         markings.resize(plain.pieces.len(), (2, [4, 2, 2, 1]));
         let mesh = plain.marked(7, &markings);
         assert!(mesh.vertices.len() < MOST_VERTICES, "room for the selected");
         let input = Input::new(&mesh, &[0]);
-        match tally.compare("a chain", &input, random) {
+        match tally.compare("a ladder", &input, random) {
             Ok(bytes) => {
                 assert_eq!(number, 0);
                 assert_eq!(read(&bytes).vertices.len(), MOST_VERTICES);
             }
-            Err(given) => assert_eq!(given, number, "a chain"),
+            Err(given) => assert_eq!(given, number, "a ladder"),
         }
     }
+}
+
+/// A ladder of 340 pieces: cutting the first closes in 341 passes. Each rung but the last is halved by the piece before
+/// it, so that every piece but the first is cut into four.
+fn long_ladder(tally: &mut Tally, random: &mut Random) {
+    let mesh = ladder(340).marked(7, &[LADDER; 340]);
+    let cut = tally.accepted("the ladder", &Input::new(&mesh, &[0]), random);
+    assert_eq!((cut.vertices.len(), cut.records.len()), (1_022, 2_376));
 }
 
 /// 8 by 8 by 8 cubes but for a few pieces, and a piece apart: cutting that makes two records more.

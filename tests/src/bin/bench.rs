@@ -1,15 +1,17 @@
-//! The time of the proved check and build and of the second program's, in one run. Prints two Markdown
-//! tables: medians in milliseconds, and the ratio.
+//! The time of the proved check, build and refine and of the second program's, in one run. Prints three
+//! Markdown tables: medians in milliseconds, and the ratio.
 
-use compared::meshes::{cubes, filled, full_base, open_leaves, refined, separate, Plain};
+use compared::meshes::{
+    cubes, filled, full_base, ladder, open_leaves, refined, separate, Plain, LADDER,
+};
 use compared::random::Random;
-use compared::{tmb_build, tmb_check};
+use compared::{tmb_build, tmb_check, tmb_refine};
 use second::mesh::Mesh;
-use second::{build, check, Report, LARGEST_MESH};
+use second::{build, check, refine, selection, Report, LARGEST_MESH};
 use std::hint::black_box;
 use std::time::Instant;
 
-/// Runs of each check and build on each mesh; odd, so that one of them is the median.
+/// Runs of each service on each mesh; odd, so that one of them is the median.
 const RUNS: usize = 21;
 
 fn milliseconds(check: impl Fn(&[u8]) -> Report, mesh: &[u8]) -> f64 {
@@ -77,10 +79,81 @@ fn build_row(name: &str, plain: &Plain) {
     );
 }
 
+type Refine = fn(&[u8], &[u8], &mut [u8]) -> u32;
+
+/// The time of one refinement into a full-size buffer of bytes 255, and what stands in it afterwards.
+fn refined_in(refine: Refine, mesh: &[u8], selection: &[u8]) -> (f64, Vec<u8>) {
+    let mut out = vec![255; LARGEST_MESH];
+    let start = Instant::now();
+    let number = refine(black_box(mesh), black_box(selection), &mut out);
+    let time = start.elapsed().as_secs_f64() * 1_000.0;
+    assert_eq!(number, 0, "accepted");
+    (time, black_box(out))
+}
+
+fn refine_row(name: &str, mesh: &Mesh, numbers: &[u16]) {
+    let (bytes, chosen) = (mesh.bytes(), selection(mesh.job, mesh.round, numbers));
+    let (mut proved, mut second) = (Vec::new(), Vec::new());
+    let mut result = Vec::new();
+    for _ in 0..RUNS {
+        let (time, one) = refined_in(tmb_refine, &bytes, &chosen);
+        proved.push(time);
+        let (time, other) = refined_in(refine, &bytes, &chosen);
+        second.push(time);
+        assert!(one == other, "{name} gets one result");
+        result = one;
+    }
+    let finer = Mesh::read(&result[..length_of(&result)]).expect("a stored mesh");
+    let (proved, second) = (median(proved), median(second));
+    println!(
+        "| {name} | {} | {} | {} | {} | {proved:.2} | {second:.2} | {:.1} |",
+        numbers.len(),
+        mesh.records.len(),
+        finer.vertices.len(),
+        finer.records.len(),
+        proved / second
+    );
+}
+
+/// How many bytes the mesh at the beginning of a buffer has.
+fn length_of(bytes: &[u8]) -> usize {
+    let count = |at: usize| usize::from(u16::from_le_bytes([bytes[at], bytes[at + 1]]));
+    20 + 10 * count(13) + 17 * count(17)
+}
+
 fn main() {
     checks();
     println!();
     builds();
+    println!();
+    refinements();
+}
+
+fn refinements() {
+    println!("| mesh | selected | records before | vertices after | records after | proved, ms | second, ms | ratio |");
+    println!("|---|---|---|---|---|---|---|---|");
+    let five = cubes([5, 5, 5], 64).built(1);
+    refine_row("5 by 5 by 5 cubes, all", &five, &open_leaves(&five));
+    let rungs = ladder(340).marked(1, &[LADDER; 340]);
+    refine_row("the ladder of 340 pieces, its first", &rungs, &[0]);
+    let finer = refined(&five, &open_leaves(&five)).expect("there is room");
+    let full = filled(finer, &mut Random::new(1));
+    let fits = |number: &&u16| refined(&full, &[**number]).is_ok();
+    let leaves = open_leaves(&full);
+    match leaves.iter().find(fits) {
+        Some(&one) => refine_row("5 by 5 by 5 cubes, nearly full, one", &full, &[one]),
+        None => {
+            // The last refinement that had room.
+            let before = refined(&five, &open_leaves(&five)).expect("there is room");
+            let one = open_leaves(&before)[0];
+            refine_row("5 by 5 by 5 cubes, refined once, one", &before, &[one]);
+        }
+    }
+    refine_row(
+        "8 by 8 by 8 cubes, none",
+        &cubes([8, 8, 8], 64).built(1),
+        &[],
+    );
 }
 
 fn builds() {
