@@ -1,23 +1,23 @@
--- What refine leaves as it was: vertices and pieces that are there keep their number; an empty selection changes the round alone.
+-- What refine leaves as it was: vertices and pieces that are there keep their number; a record that is cut stays cut; an empty selection changes the round alone.
 use mathlib.Core.Path.{_≡_, refl, sym, ap, _∙_}
-use mathlib.Core.Bool.{Bool, true, false, not, cond, _&&_}
+use mathlib.Core.Bool.{Bool, true, false, not, cond, _&&_, false≢true}
 use mathlib.Core.Logic.{⊎-elim}
 use mathlib.Core.List.{List}
 use Prim.Native.Nat.{ℕ, zero, suc, _+_, _≤_, _<_}
 use native.Mathlib.Nat.{le-refl}
 use native.Mathlib.Omega.{arith}
 use lib.Dec.{eqb}
-use borrow.Author.Tests.{eqb-true, eqb-false, eq-eqb}
-use Rattle.laws.specs.Below.{either, putAt, any-none}
+use borrow.Author.Tests.{eqb-true, eqb-false, eq-eqb, ne-eqb}
+use Rattle.laws.specs.Below.{either, putAt, anyBelow, any-none, any-fails, any-fails-at}
 use Rattle.piece_cut.specs.Cut.{cutOf}
 use Rattle.stored.specs.declared.Limits.{Limits}
 use Rattle.stored.specs.declared.Record.{Record}
 use Rattle.stored.specs.Layout.{limits, selectionOf, namedIn}
-use Rattle.check_refusals.specs.Tables.{Tables, tablesOf, allVertices, allRecords, pieceAt, vertexWith, refinementEnds}
-use Rattle.check_refusals.specs.Refusals.{wrongLength, wrongMark, wrongCounts, badVertices, badBaseRecords, badBaseMarks, badBaseFaces, unusedVertices, badCuts, leafHangs, hangingEdge}
+use Rattle.check_refusals.specs.Tables.{Tables, tablesOf, uncut, allVertices, allRecords, pieceAt, vertexWith, refinementEnds}
+use Rattle.check_refusals.specs.Refusals.{wrongLength, wrongMark, wrongCounts, badVertices, badBaseRecords, badBaseMarks, badBaseFaces, unusedVertices, badCuts, hangsAt, leafHangs, hangingEdge}
 use Rattle.check_refusals.specs.Check.{rows, tableRows, firstBroken, checkNumber}
 use Rattle.stored.specs.Layout.{headerOf}
-use Rattle.refine_selection.specs.Selected.{isNamed}
+use Rattle.refine_selection.specs.Selected.{namesCut, isNamed}
 use Rattle.refine_cut.specs.Cut.{withMidpoint, withChildren, cutRecord, leafRecord, cutAt}
 use Rattle.refine_pass.specs.Passes.{exceeds, turn, passBelow, pass, closing, refined}
 use Rattle.refine_pass.specs.Law.{other-number, midpoint-keeps, cut-record-count, cut-vertex-count, cut-vertices-stay, cut-records-stay}
@@ -109,6 +109,60 @@ module _ (most : Limits) where
 pub closed-keeps : (mesh selection : List ℕ) → Keeps (tablesOf mesh) (closed mesh selection)
 unfolding closed
 closed-keeps mesh selection = refined-keeps limits (isNamed (selectionOf selection .count) (namedIn selection)) (tablesOf mesh)
+
+-- ---- a record that is cut stays cut
+
+module _ (most : Limits) where
+  -- A pass that chooses no cut record leaves each as it is.
+  below-cut : (chosen : ℕ → Bool) (m : Tables) (k : ℕ) → k < allRecords m → chosen k ≡ false → (n : ℕ) → n ≤ allRecords m → passBelow most chosen n m .recordAt k ≡ m .recordAt k
+  unfolding passBelow turn
+  below-cut chosen m k l none zero h = refl
+  below-cut chosen m k l none (suc n) h =
+      let t : Tables = passBelow most chosen n m in
+      let keeps : Keeps m t = below-keeps most chosen n m (omega arith) in
+      go t (exceeds most (t .header)) (chosen n) refl (omega (arith, keeps .records)) ∙ below-cut chosen m k l none n (omega arith)
+    where
+      go : (t : Tables) (e c : Bool) → chosen n ≡ c → k < allRecords t → cond (c && not e) (cutAt t n) t .recordAt k ≡ t .recordAt k
+      go t e false is there = refl
+      go t true true is there = refl
+      go t false true is there = cut-records-stay t n k there (λ q. absurd (false≢true (sym none ∙ ap chosen q ∙ is)))
+
+  pass-cut : (chosen : ℕ → Bool) (m : Tables) (k : ℕ) → k < allRecords m → chosen k ≡ false → pass most chosen m .recordAt k ≡ m .recordAt k
+  unfolding pass
+  pass-cut chosen m k l none = below-cut chosen m k l none (allRecords m) (le-refl (allRecords m))
+
+  closing-cut : (passes : ℕ) (m : Tables) (k : ℕ) → k < allRecords m → uncut (m .recordAt k) ≡ false → closing most passes m .recordAt k ≡ m .recordAt k
+  unfolding closing leafHangs hangsAt
+  closing-cut zero m k l cut = refl
+  closing-cut (suc passes) m k l cut =
+      let t : Tables = pass most (leafHangs m) m in
+      let same : t .recordAt k ≡ m .recordAt k = pass-cut (leafHangs m) m k l (no-leaf m k cut) in
+      go (hangingEdge m && not (exceeds most (m .header))) t (closing most passes t)
+      (closing-cut passes t k (omega (arith, pass-keeps most (leafHangs m) m .records)) (ap uncut same ∙ cut) ∙ same)
+    where
+      no-leaf : (m : Tables) (k : ℕ) → uncut (m .recordAt k) ≡ false → leafHangs m k ≡ false
+      no-leaf m k c = any-fails (hangsAt m k) 6 (λ e l. rw c)
+
+      go : (b : Bool) (t u : Tables) → u .recordAt k ≡ m .recordAt k → cond b u m .recordAt k ≡ m .recordAt k
+      go true t u e = e
+      go false t u e = refl
+
+-- "Records already there": one that is cut stays as it is, whatever is selected, unless a cut record is named, which gets 16.
+pub cut-stays : (mesh selection : List ℕ) (k : ℕ) → k < allRecords (tablesOf mesh) → uncut (tablesOf mesh .recordAt k) ≡ false →
+    namesCut (tablesOf mesh .recordAt) (selectionOf selection .count) (namedIn selection) ≡ false → closed mesh selection .recordAt k ≡ tablesOf mesh .recordAt k
+unfolding closed refined namesCut isNamed
+cut-stays mesh selection k l cut right =
+    let m : Tables = tablesOf mesh in
+    let chosen : ℕ → Bool = isNamed (selectionOf selection .count) (namedIn selection) in
+    let same : pass limits chosen m .recordAt k ≡ m .recordAt k = pass-cut limits chosen m k l not-named in
+    closing-cut limits (limits .records) (pass limits chosen m) k (omega (arith, pass-keeps limits chosen m .records)) (ap uncut same ∙ cut) ∙ same
+  where
+    not-named : anyBelow (selectionOf selection .count) (λ i. eqb (namedIn selection i) k) ≡ false
+    not-named =
+        any-fails (λ i. eqb (namedIn selection i) k) (selectionOf selection .count)
+        (λ i there. ne-eqb (namedIn selection i) k
+        (λ e. let leaf : not (uncut (tablesOf mesh .recordAt (namedIn selection i))) ≡ false = any-fails-at (λ j. not (uncut (tablesOf mesh .recordAt (namedIn selection j)))) (selectionOf selection .count) i right there in
+        absurd (false≢true (sym leaf ∙ ap not (ap (λ (j : ℕ). uncut (tablesOf mesh .recordAt j)) e ∙ cut)))))
 
 -- ---- an empty selection
 
