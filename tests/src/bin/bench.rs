@@ -136,19 +136,8 @@ fn refinements() {
     refine_row("5 by 5 by 5 cubes, all", &five, &open_leaves(&five));
     let rungs = ladder(340).marked(1, &[LADDER; 340]);
     refine_row("the ladder of 340 pieces, its first", &rungs, &[0]);
-    let finer = refined(&five, &open_leaves(&five)).expect("there is room");
-    let full = filled(finer, &mut Random::new(1));
-    let fits = |number: &&u16| refined(&full, &[**number]).is_ok();
-    let leaves = open_leaves(&full);
-    match leaves.iter().find(fits) {
-        Some(&one) => refine_row("5 by 5 by 5 cubes, nearly full, one", &full, &[one]),
-        None => {
-            // The last refinement that had room.
-            let before = refined(&five, &open_leaves(&five)).expect("there is room");
-            let one = open_leaves(&before)[0];
-            refine_row("5 by 5 by 5 cubes, refined once, one", &before, &[one]);
-        }
-    }
+    let nearly = cubes([8, 8, 7], 64).built(1);
+    refine_row("8 by 8 by 7 cubes, one", &nearly, &[0]);
     refine_row(
         "8 by 8 by 8 cubes, none",
         &cubes([8, 8, 8], 64).built(1),
