@@ -18,7 +18,7 @@ use Rattle.grid_volume.specs.Volume.{minorOf, determinantOf, differenceOf, diff
 use Rattle.stored.specs.declared.Vertex.{Vertex}
 use Rattle.stored.specs.declared.Record.{Record}
 use Rattle.stored.specs.Layout.{none, marked, markBytes, rightMark, rightLength, headerOf, headerBytes, orNone, storedOrNone, heldIn, vertexIn, vertexFrom, vertexBytes, recordIn, recordFrom, recordBytes, meshBytes, rightSelectionMark, rightSelectionLength, selectionOf, selectionBytes, namedIn}
-use Rattle.check_refusals.specs.Tables.{tablesOf, uncut, isLeaf, hasParents, vertexWith, hangs, sixfoldAt}
+use Rattle.check_refusals.specs.Tables.{Tables, tablesOf, refinementEnds, uncut, isLeaf, hasParents, vertexWith, hangs, sixfoldAt}
 use Rattle.check_refusals.specs.Refusals.{wrongLength, wrongMark, wrongCounts, badVertices, badVertex, badBaseVertex, placeTwice, badMadeVertex, pairTwice, badBaseRecords, badBaseRecord, badPiece, equalCorners, cornerNotInBase, badBaseMarks, badMarks, badBaseFaces, badFaces, badWith, badTogether, faceInThree, faceBefore, hasFace, sameFace, faceWithin, faceHas, sameCorners, cornersWithin, hasCorner, twoMarks, twoMarksOn, sameMark, sameEnds, unusedVertices, unusedVertex, badCuts, badRecord, badCut, badChildren, isChildOf, notChildOfOne, tooDeep, isMidpointOf, noMidpoint, hangsAt, leafHangs, hangingEdge}
 use Rattle.check_refusals.specs.Check.{tableRows, rows, firstBroken, leaves}
 use Rattle.refine_selection.specs.Selected.{wrongSelectionLength, wrongSelectionMark, anotherJob, anotherRound, badNumber, badNumbers, namesCut, namesLast, isNamed}
@@ -110,14 +110,20 @@ same [] (y ∷ ys) = eqb 0 1
 same (x ∷ xs) [] = eqb 0 1
 same (x ∷ xs) (y ∷ ys) = eqb x y && same xs ys
 
+-- Record n is cut next at the edge from a to b.
+abbrev nextAt : Tables → ℕ → ℕ → ℕ → Bool
+nextAt m n a b = let ends = refinementEnds (m .recordAt n .piece) in eqb (ends .lower) a && eqb (ends .higher) b
+
 pub record Rows : Type 0 where
-  -- "K, select 0: [..] 121 bytes; an output buffer of 120 gets 20."
+  -- "K, select 0: [..] Sixfold 131,072 each. 121 bytes; an output buffer of 120 gets 20."
   pub cut : refineNumber K (selecting 7 0 1 (0 ∷ [])) 121 ≡ 0
   pub cut-bytes : same (refineBytes K (selecting 7 0 1 (0 ∷ [])) 121) K-cut ≡ true
+  pub halves : (let m = closed K (selecting 7 0 1 (0 ∷ [])) in eqb (sixfoldAt (m .vertexAt) (m .recordAt 1 .piece)) 131072 && eqb (sixfoldAt (m .vertexAt) (m .recordAt 2 .piece)) 131072) ≡ true
   pub short : refineNumber K (selecting 7 0 1 (0 ∷ [])) 120 ≡ 20
   -- "Then select 1 and 2: records 3 to 6, cut next at 0-1, 1-2, 1-2, 2-3."
   pub then-cut : refineNumber K-cut (selecting 7 1 2 (1 ∷ 2 ∷ [])) 209 ≡ 0
   pub then-bytes : same (refineBytes K-cut (selecting 7 1 2 (1 ∷ 2 ∷ [])) 209) K-four ≡ true
+  pub then-next : (let m = closed K-cut (selecting 7 1 2 (1 ∷ 2 ∷ [])) in nextAt m 3 0 1 && nextAt m 4 1 2 && nextAt m 5 1 2 && nextAt m 6 2 3) ≡ true
   -- "From there select 4 alone: 5 is cut too. 8 vertices, 11 records, 6 leaves."
   pub alone-vertices : closed K-four (selecting 7 2 1 (4 ∷ [])) .header .vertices ≡ 8
   pub alone-records : closed K-four (selecting 7 2 1 (4 ∷ [])) .header .records ≡ 11
@@ -137,4 +143,4 @@ pub record Rows : Type 0 where
 
 pub rows-hold : Rows
 unfolding leaves same foldBelow allBelow anyBelow countBelow sumBelow firstBelow listBelow joined number numberBytes lowSlot highSlot hasSlot otherEnd joins edgeBetween onFace opposite oppositeOn shares sharedSlot slotA slotB slotC slotD edgeCD otherMarksAre typeP setP unsetP markFits lowerEnd higherEnd endsOf sameSlot sameSlots samePiece newMark childFlag childMark childShape childOf cutOf coordinate coordinateOnGrid onGrid samePlace isHalfway halfwayOf minorOf determinantOf differenceOf differencesOf sixfoldOf marked markBytes rightMark rightLength headerOf headerBytes orNone storedOrNone heldIn vertexIn vertexFrom vertexBytes recordIn recordFrom recordBytes meshBytes rightSelectionMark rightSelectionLength selectionOf selectionBytes namedIn tablesOf hasParents vertexWith hangs sixfoldAt wrongLength wrongMark wrongCounts badVertices badVertex badBaseVertex placeTwice badMadeVertex pairTwice badBaseRecords badBaseRecord badPiece equalCorners cornerNotInBase badBaseMarks badMarks badBaseFaces badFaces badWith badTogether faceInThree faceBefore hasFace sameFace faceWithin faceHas sameCorners cornersWithin hasCorner twoMarks twoMarksOn sameMark sameEnds unusedVertices unusedVertex badCuts badRecord badCut badChildren isChildOf notChildOfOne tooDeep isMidpointOf noMidpoint hangsAt leafHangs hangingEdge tableRows rows firstBroken wrongSelectionLength wrongSelectionMark anotherJob anotherRound badNumber badNumbers namesCut namesLast isNamed midpointOf withMidpoint withChildren cutAt exceeds turn passBelow pass closing refined closed resultOf selectionRows resultRows refineNumber refineBytes
-rows-hold = record { cut = refl; cut-bytes = refl; short = refl; then-cut = refl; then-bytes = refl; alone-vertices = refl; alone-records = refl; alone-leaves = refl; five-cut = refl; all-vertices = refl; all-records = refl; all-leaves = refl; all-sixfold = refl; empty-bytes = refl; empty-round = refl; expired = refl; of-another-job = refl }
+rows-hold = record { cut = refl; cut-bytes = refl; halves = refl; short = refl; then-cut = refl; then-bytes = refl; then-next = refl; alone-vertices = refl; alone-records = refl; alone-leaves = refl; five-cut = refl; all-vertices = refl; all-records = refl; all-leaves = refl; all-sixfold = refl; empty-bytes = refl; empty-round = refl; expired = refl; of-another-job = refl }

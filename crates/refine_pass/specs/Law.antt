@@ -126,7 +126,7 @@ pub record Working (most : Limits) (l : Layout) (s : Slices) : Type 0 where
   pub few-records : most .records + 2 ≤ storedNone
 
 -- What does not exceed the limits.
-within : (most : Limits) (h : Header) → exceeds most h ≡ false → (h .vertices ≤ most .vertices) × (h .records ≤ most .records)
+pub within : (most : Limits) (h : Header) → exceeds most h ≡ false → (h .vertices ≤ most .vertices) × (h .records ≤ most .records)
 unfolding exceeds
 within most h e = (
   ltb-false (most .vertices) (h .vertices) (or-left-false (ltb (most .vertices) (h .vertices)) (ltb (most .records) (h .records)) e),

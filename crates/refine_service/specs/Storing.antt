@@ -8,8 +8,7 @@ use native.Mathlib.Omega.{arith}
 use lib.ListN.{length, drop, replicate, length-replicate}
 use lib.Seq.{sets, length-sets}
 use lib.Dec.{eqb, ltb, lit<}
-use borrow.Author.Tests.{eqb-true, eqb-false, ltb-false, lt-ltb, le-ltb, not-false}
-use Rattle.laws.specs.Below.{or-left-false, or-right-false}
+use borrow.Author.Tests.{eqb-true, eqb-false, lt-ltb, le-ltb, not-false}
 use Rattle.laws.specs.Lists.{Bytes, bytes-none, bytes-cons, bytes-take, bytes-drop, bytes-sets, clear-with}
 use Rattle.laws.specs.Numbers.{number-below}
 use Rattle.stored.specs.declared.Header.{Header}
@@ -26,7 +25,7 @@ use Rattle.refine_selection.specs.Selected.{isNamed}
 use Rattle.refine_cut.specs.Slices.{slices, tablesIn}
 use Rattle.refine_pass.specs.Passes.{exceeds, refined}
 use Rattle.refine_pass.specs.Puts.{refinedPut}
-use Rattle.refine_pass.specs.Law.{Working, refined-tables, refined-working}
+use Rattle.refine_pass.specs.Law.{within, Working, refined-tables, refined-working}
 use Rattle.refine_pass.specs.Stays.{round-stays}
 use Rattle.refine_service.specs.Refine.{closed, nextRound, resultOf, selectionRows, resultRows, refineNumber, refineBytes}
 use Rattle.refine_service.specs.Order.{selectionNumber, not-last, first-now, after-check, after-selection}
@@ -54,13 +53,6 @@ pub record Assembled (h : Header) (base grown out : List ℕ) : Type 0 where
   pub round : h .round < lastRound
   pub clear : out ≡ replicate (length out) 0
 
-within : (h : Header) → exceeds limits h ≡ false → (h .vertices ≤ limits .vertices) × (h .records ≤ limits .records)
-unfolding exceeds
-within h e = (
-  ltb-false (limits .vertices) (h .vertices) (or-left-false (ltb (limits .vertices) (h .vertices)) (ltb (limits .records) (h .records)) e),
-  ltb-false (limits .records) (h .records) (or-right-false (ltb (limits .vertices) (h .vertices)) (ltb (limits .records) (h .records)) e),
-)
-
 module _ (h : Header) (base grown out : List ℕ) (a : Assembled h base grown out) where
   refused-bytes : eqb (storedNumber h (length out)) 0 ≡ false → out ≡ storedBytes h base grown (length out)
   unfolding storedBytes
@@ -79,7 +71,7 @@ module _ (h : Header) (base grown out : List ℕ) (a : Assembled h base grown ou
     unfolding storedNumber resultRows firstBroken storedBytes
     stored-0 l =
         let n : 0 ≡ storedNumber h (length out) = rw (few, le-ltb (length out) (meshLength (h .vertices) (h .records)) l) in
-        let (v, r) = within h few in
+        let (v, r) = within limits h few in
         let long = assembled-length (nextRound h) base grown (omega (arith, a .vertices-there)) (omega (arith, a .records-there)) in
         (n, rw (← n) (ap (λ (t : List ℕ). sets t 0 (assembled (nextRound h) base grown)) (a .clear) ∙ clear-with (length out) (assembled (nextRound h) base grown) (omega arith)))
 
@@ -189,7 +181,7 @@ module _ (mesh selection out : List ℕ) (h : Header) (c : Copied h mesh out) wh
     unfolding storedBytes laterBytes laterNumber resultOf
     later-bytes room =
         same-output (storedNumber with room) room (assembled (nextRound with) base grown) (meshBytes (resultOf (tables with work base grown)))
-        (λ e. let (v, r) = within with (stored-few with room e) in
+        (λ e. let (v, r) = within limits with (stored-few with room e) in
         assembled-mesh (nextRound with) (limits .vertices + 1) (limits .records + 2) (omega arith) (omega arith) base grown (ended .bytes .0) (ended .bytes .1) long deep)
         ∙ ap (λ (m : Tables). outputOf (storedNumber (m .header) room) room (meshBytes (resultOf m))) worked
 

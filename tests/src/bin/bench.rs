@@ -7,7 +7,7 @@ use compared::meshes::{
 use compared::random::Random;
 use compared::{tmb_build, tmb_check, tmb_refine};
 use second::mesh::Mesh;
-use second::{build, check, refine, selection, Report, LARGEST_MESH};
+use second::{build, check, refine, refine_vec, selection, Report, LARGEST_MESH};
 use std::hint::black_box;
 use std::time::Instant;
 
@@ -94,16 +94,15 @@ fn refined_in(refine: Refine, mesh: &[u8], selection: &[u8]) -> (f64, Vec<u8>) {
 fn refine_row(name: &str, mesh: &Mesh, numbers: &[u16]) {
     let (bytes, chosen) = (mesh.bytes(), selection(mesh.job, mesh.round, numbers));
     let (mut proved, mut second) = (Vec::new(), Vec::new());
-    let mut result = Vec::new();
     for _ in 0..RUNS {
         let (time, one) = refined_in(tmb_refine, &bytes, &chosen);
         proved.push(time);
         let (time, other) = refined_in(refine, &bytes, &chosen);
         second.push(time);
         assert!(one == other, "{name} gets one result");
-        result = one;
     }
-    let finer = Mesh::read(&result[..length_of(&result)]).expect("a stored mesh");
+    let result = refine_vec(&bytes, &chosen).expect("accepted");
+    let finer = Mesh::read(&result).expect("a stored mesh");
     let (proved, second) = (median(proved), median(second));
     println!(
         "| {name} | {} | {} | {} | {} | {proved:.2} | {second:.2} | {:.1} |",
@@ -113,12 +112,6 @@ fn refine_row(name: &str, mesh: &Mesh, numbers: &[u16]) {
         finer.records.len(),
         proved / second
     );
-}
-
-/// How many bytes the mesh at the beginning of a buffer has.
-fn length_of(bytes: &[u8]) -> usize {
-    let count = |at: usize| usize::from(u16::from_le_bytes([bytes[at], bytes[at + 1]]));
-    20 + 10 * count(13) + 17 * count(17)
 }
 
 fn main() {

@@ -5,9 +5,6 @@ use std::io;
 use std::path::Path;
 use std::process::ExitCode;
 
-/// The largest mesh.
-const LARGEST: usize = 62_484;
-
 fn main() -> ExitCode {
     let arguments: Vec<_> = std::env::args_os().skip(1).collect();
     let [mesh, selection, out] = arguments.as_slice() else {
@@ -41,11 +38,12 @@ fn refined(
 ) -> io::Result<Result<usize, u32>> {
     let mesh = std::fs::read(mesh)?;
     let selection = std::fs::read(selection)?;
-    let mut bytes = vec![0; LARGEST];
+    let mut bytes = vec![0; second::LARGEST_MESH];
     let number = compared::tmb_refine(&mesh, &selection, &mut bytes);
     if number != 0 {
         return Ok(Err(number));
     }
+    // "20 + 10 * vertices + 17 * records bytes", by the header's own counts.
     let count = |at: usize| usize::from(u16::from_le_bytes([bytes[at], bytes[at + 1]]));
     let length = 20 + 10 * count(13) + 17 * count(17);
     bytes.truncate(length);
