@@ -195,6 +195,18 @@ mesh-written-again s b right marked =
     ∙ sym (take-add from (recordWidth * k) s)
     ∙ take-all (from + recordWidth * k) s (omega arith)
 
+-- ---- where an entry stands in the slices to work on
+
+module _ (vertices records : ℕ) (base grown : List ℕ) (i : ℕ) where
+  pub working-vertex : i < vertices → heldIn vertexWidth (working vertices records .vertices) base grown i ≡ take vertexWidth (drop (vertexWidth * i) base)
+  working-vertex l = held-base vertexWidth (working vertices records .vertices) base grown i l l
+
+  pub working-record : i < records → heldIn recordWidth (working vertices records .records) base grown i ≡ take recordWidth (drop (recordWidth * i) grown)
+  working-record l =
+      let none-before : i - 0 ≡ i = omega arith in
+      held-growth recordWidth (working vertices records .records) base grown i l (omega arith)
+      ∙ ap (λ (n : ℕ). take recordWidth (drop (recordWidth * n) grown)) none-before
+
 -- ---- from tables that were worked on to the mesh that is assembled from them
 
 -- The header is written, then the vertices, then the records.
@@ -251,7 +263,7 @@ module _ (h : Header) (vertices records : List ℕ) (long : vertexWidth * h .ver
       same i =
           ⊎-elim
           (λ t. let l = ltb-true i (h .vertices) t in
-          held-base vertexWidth (working (h .vertices) (h .records) .vertices) vertices records i l l
+          working-vertex (h .vertices) (h .records) vertices records i l
           ∙ sym (front-entry vertexWidth i (h .vertices) vertices recordPart l long)
           ∙ ap (λ (r : List ℕ). take vertexWidth (drop (vertexWidth * i) r)) (sym (ap (drop headerWidth) (append-assoc (headerBytes h) vertexPart recordPart) ∙ drop-at (headerBytes h) (vertexPart ++ recordPart) headerWidth (header-wide h)))
           ∙ sym (held-base vertexWidth (layoutOf h .vertices) whole whole i l l))
@@ -268,9 +280,7 @@ module _ (h : Header) (vertices records : List ℕ) (long : vertexWidth * h .ver
       same i =
           ⊎-elim
           (λ t. let l = ltb-true i (h .records) t in
-          let none-before : i - 0 ≡ i = omega arith in
-          held-growth recordWidth (working (h .vertices) (h .records) .records) vertices records i l (omega arith)
-          ∙ ap (λ (n : ℕ). take recordWidth (drop (recordWidth * n) records)) none-before
+          working-record (h .vertices) (h .records) vertices records i l
           ∙ sym (front-entry recordWidth i (h .records) records [] l deep)
           ∙ ap (λ (r : List ℕ). take recordWidth (drop (recordWidth * i) r))
           (append-nil recordPart ∙ sym (drop-at (headerBytes h ++ vertexPart) recordPart (headerWidth + vertexWidth * h .vertices) front-wide))

@@ -14,8 +14,8 @@ use Rattle.laws.specs.Lists.{Bytes, joined-below, sets-run, sets-after}
 use Rattle.laws.specs.Numbers.{number, number-two}
 use Rattle.stored.specs.declared.Header.{Header}
 use Rattle.stored.specs.Layout.{headerWidth, vertexWidth, recordWidth, placeOf, orNone, meshLength, vertexFrom, vertexBytes, recordFrom, recordBytes, heldIn, vertexIn, recordIn, layoutOf, working, vertexPart, recordPart, headerBytes, assembled, meshBytes}
-use Rattle.stored.specs.Held.{held-base, held-growth, held-none}
-use Rattle.stored.specs.Meshes.{front-entry, vertex-at, record-at}
+use Rattle.stored.specs.Held.{held-base, held-none}
+use Rattle.stored.specs.Meshes.{working-vertex, working-record, front-entry, vertex-at, record-at}
 
 -- ---- zeros read as nothing does
 
@@ -85,6 +85,25 @@ module _ (w n m : ℕ) (t : List ℕ) (within : w * n ≤ length t) (room : w * 
       let past : w * n ≤ w * i = mul-le-mul-left w l in
       rw (sets-after (replicate m 0) 0 (take (w * n) t) (w * i) (omega (arith, wide))) (zeros-take w (drop (w * i) (replicate m 0)) (zeros-drop (w * i) (replicate m 0) (zeros-replicate m)))
 
+  -- A table of `end` entries that stands over the copy is read as the one of n entries over t, whatever it is that is read, if zeros
+  -- read as nothing does.
+  module _ {A : Type 0} (from : List ℕ → A) (nothing : (z : List ℕ) → Zeros z → from z ≡ from []) (end : ℕ) (few : n ≤ end) (here there : ℕ → List ℕ)
+      (here-is : (i : ℕ) → i < end → here i ≡ take w (drop (w * i) copied)) (here-none : (i : ℕ) → end ≤ i → here i ≡ [])
+      (there-is : (i : ℕ) → i < n → there i ≡ take w (drop (w * i) t)) (there-none : (i : ℕ) → n ≤ i → there i ≡ []) where
+    past : (i : ℕ) → n ≤ i → from (here i) ≡ from []
+    past i l =
+        ⊎-elim
+        (λ b. ap from (here-is i (ltb-true i end b)) ∙ nothing (take w (drop (w * i) copied)) (copied-zeros i l))
+        (λ f. ap from (here-none i (ltb-false i end f)))
+        (either (ltb i end))
+
+    copied-reads : (i : ℕ) → from (here i) ≡ from (there i)
+    copied-reads i =
+        ⊎-elim
+        (λ b. let l = ltb-true i n b in ap from (here-is i (omega arith) ∙ copied-entry i l ∙ sym (there-is i l)))
+        (λ f. let l = ltb-false i n f in past i l ∙ ap from (sym (there-none i l)))
+        (either (ltb i n))
+
 -- ---- the tables of a stored mesh, copied to work on, read as they do in the mesh
 
 module _ (h : Header) (s : List ℕ) (long : length s ≡ meshLength (h .vertices) (h .records)) (vertices records : ℕ) (v : h .vertices ≤ vertices) (r : h .records ≤ records) where
@@ -96,72 +115,22 @@ module _ (h : Header) (s : List ℕ) (long : length s ≡ meshLength (h .vertice
 
   pub copied-vertices : vertexIn (working vertices records) base grown ≡ vertexIn (layoutOf h) s s
   unfolding vertexIn vertexPart
-  copied-vertices = λ k i. same i k
-    where
-      from : List ℕ
-      from = drop headerWidth s
-
-      within : vertexWidth * h .vertices ≤ length from
-      within = rw (length-drop headerWidth s) (omega arith)
-
-      room : vertexWidth * h .vertices ≤ vertexWidth * vertices
-      room = mul-le-mul-left vertexWidth v
-
-      past : (i : ℕ) → h .vertices ≤ i → vertexFrom (heldIn vertexWidth (working vertices records .vertices) base grown i) ≡ vertexFrom []
-      past i l =
-          ⊎-elim
-          (λ t. let e = ltb-true i vertices t in
-          ap vertexFrom (held-base vertexWidth (working vertices records .vertices) base grown i e e)
-          ∙ zero-vertex (take vertexWidth (drop (vertexWidth * i) base)) (copied-zeros vertexWidth (h .vertices) (vertexWidth * vertices) from within room i l))
-          (λ f. ap vertexFrom (held-none vertexWidth (working vertices records .vertices) base grown i (ltb-false i vertices f)))
-          (either (ltb i vertices))
-
-      same : (i : ℕ) → vertexFrom (heldIn vertexWidth (working vertices records .vertices) base grown i) ≡ vertexFrom (heldIn vertexWidth (layoutOf h .vertices) s s i)
-      same i =
-          ⊎-elim
-          (λ t. let l = ltb-true i (h .vertices) t in
-          let e : i < vertices = omega arith in
-          ap vertexFrom (held-base vertexWidth (working vertices records .vertices) base grown i e e
-          ∙ copied-entry vertexWidth (h .vertices) (vertexWidth * vertices) from within room i l
-          ∙ sym (held-base vertexWidth (layoutOf h .vertices) s s i l l)))
-          (λ f. let l = ltb-false i (h .vertices) f in
-          past i l ∙ ap vertexFrom (sym (held-none vertexWidth (layoutOf h .vertices) s s i l)))
-          (either (ltb i (h .vertices)))
+  copied-vertices =
+      let within : vertexWidth * h .vertices ≤ length (drop headerWidth s) = rw (length-drop headerWidth s) (omega arith) in
+      λ k i. copied-reads vertexWidth (h .vertices) (vertexWidth * vertices) (drop headerWidth s) within (mul-le-mul-left vertexWidth v) vertexFrom zero-vertex vertices v
+      (heldIn vertexWidth (working vertices records .vertices) base grown) (heldIn vertexWidth (layoutOf h .vertices) s s)
+      (working-vertex vertices records base grown) (held-none vertexWidth (working vertices records .vertices) base grown)
+      (λ j l. held-base vertexWidth (layoutOf h .vertices) s s j l l) (held-none vertexWidth (layoutOf h .vertices) s s) i k
 
   pub copied-records : recordIn (working vertices records) base grown ≡ recordIn (layoutOf h) s s
   unfolding recordIn recordPart
-  copied-records = λ k i. same i k
-    where
-      from : List ℕ
-      from = drop (headerWidth + vertexWidth * h .vertices) s
-
-      within : recordWidth * h .records ≤ length from
-      within = rw (length-drop (headerWidth + vertexWidth * h .vertices) s) (omega arith)
-
-      room : recordWidth * h .records ≤ recordWidth * records
-      room = mul-le-mul-left recordWidth r
-
-      at : (i : ℕ) → i < records → heldIn recordWidth (working vertices records .records) base grown i ≡ take recordWidth (drop (recordWidth * i) grown)
-      at i e = let none-before : i - 0 ≡ i = omega arith in held-growth recordWidth (working vertices records .records) base grown i e (omega arith) ∙ ap (λ (n : ℕ). take recordWidth (drop (recordWidth * n) grown)) none-before
-
-      past : (i : ℕ) → h .records ≤ i → recordFrom (heldIn recordWidth (working vertices records .records) base grown i) ≡ recordFrom []
-      past i l =
-          ⊎-elim
-          (λ t. ap recordFrom (at i (ltb-true i records t))
-          ∙ zero-record (take recordWidth (drop (recordWidth * i) grown)) (copied-zeros recordWidth (h .records) (recordWidth * records) from within room i l))
-          (λ f. ap recordFrom (held-none recordWidth (working vertices records .records) base grown i (ltb-false i records f)))
-          (either (ltb i records))
-
-      same : (i : ℕ) → recordFrom (heldIn recordWidth (working vertices records .records) base grown i) ≡ recordFrom (heldIn recordWidth (layoutOf h .records) s s i)
-      same i =
-          ⊎-elim
-          (λ t. let l = ltb-true i (h .records) t in
-          ap recordFrom (at i (omega arith)
-          ∙ copied-entry recordWidth (h .records) (recordWidth * records) from within room i l
-          ∙ sym (held-base recordWidth (layoutOf h .records) s s i l l)))
-          (λ f. let l = ltb-false i (h .records) f in
-          past i l ∙ ap recordFrom (sym (held-none recordWidth (layoutOf h .records) s s i l)))
-          (either (ltb i (h .records)))
+  copied-records =
+      let from : ℕ = headerWidth + vertexWidth * h .vertices in
+      let within : recordWidth * h .records ≤ length (drop from s) = rw (length-drop from s) (omega arith) in
+      λ k i. copied-reads recordWidth (h .records) (recordWidth * records) (drop from s) within (mul-le-mul-left recordWidth r) recordFrom zero-record records r
+      (heldIn recordWidth (working vertices records .records) base grown) (heldIn recordWidth (layoutOf h .records) s s)
+      (working-record vertices records base grown) (held-none recordWidth (working vertices records .records) base grown)
+      (λ j l. held-base recordWidth (layoutOf h .records) s s j l l) (held-none recordWidth (layoutOf h .records) s s) i k
 
 -- ---- the mesh assembled from tables that were worked on is the one of their numbers
 
@@ -174,13 +143,7 @@ module _ (h : Header) (vertices records : ℕ) (v : h .vertices ≤ vertices) (r
       (joined-below recordBytes recordWidth (h .records) (recordIn (working vertices records) base grown) grown piece))
     where
       vertex : (i : ℕ) → i < h .vertices → vertexBytes (vertexIn (working vertices records) base grown i) ≡ take vertexWidth (drop (vertexWidth * i) base)
-      vertex i l =
-          let e : i < vertices = omega arith in
-          ap (λ (t : List ℕ). vertexBytes (vertexFrom t)) (held-base vertexWidth (working vertices records .vertices) base grown i e e)
-          ∙ vertex-at base b 0 i (omega arith)
+      vertex i l = ap (λ (t : List ℕ). vertexBytes (vertexFrom t)) (working-vertex vertices records base grown i (omega arith)) ∙ vertex-at base b 0 i (omega arith)
 
       piece : (i : ℕ) → i < h .records → recordBytes (recordIn (working vertices records) base grown i) ≡ take recordWidth (drop (recordWidth * i) grown)
-      piece i l =
-          let none-before : i - 0 ≡ i = omega arith in
-          ap (λ (t : List ℕ). recordBytes (recordFrom t)) (held-growth recordWidth (working vertices records .records) base grown i (omega arith) (omega arith) ∙ ap (λ (n : ℕ). take recordWidth (drop (recordWidth * n) grown)) none-before)
-          ∙ record-at grown g 0 i (omega arith)
+      piece i l = ap (λ (t : List ℕ). recordBytes (recordFrom t)) (working-record vertices records base grown i (omega arith)) ∙ record-at grown g 0 i (omega arith)
