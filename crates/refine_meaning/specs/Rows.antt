@@ -49,7 +49,7 @@ K =
 
 -- K with record 0 cut: "vertex 4 is (32,32,32) with parents 0, 3. Record 1: corners 0 1 2 4, edge 1, marks 3, 1, 0, 1. Record 2: 4 1 2 3,
 -- edge 4, marks 4, 5, 4, 3."
-abbrev K-cut : List ℕ
+abbrev pub K-cut : List ℕ
 K-cut =
     meshBytes
     (record {

@@ -2,7 +2,6 @@
 -- Assumes nothing.
 use borrow.Author.Needs.{needs}
 use Prim.Native.Nat.{_≤_, _-_}
-use native.Mathlib.Omega.{arith}
 use Rattle.sample.proofs.print_leaves.Statement.{statement}
 use Rattle.sample.proofs.print_leaves.Tie as tie
 

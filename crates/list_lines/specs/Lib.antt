@@ -1,0 +1,2 @@
+-- The listing's lines.
+pub mod Lines

@@ -1,0 +1,2 @@
+-- What the listing says.
+pub mod Example

@@ -1,0 +1,1 @@
+// What the listing says: the worked example, and no line longer than its buffer. It has no code: everything is in specs/.
