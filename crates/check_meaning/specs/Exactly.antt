@@ -7,13 +7,11 @@ use Prim.Native.Nat.{ℕ, zero, suc, _<_}
 use native.Mathlib.Nat.{le-refl, eq-or-lt-of-le, le-of-suc-le-suc}
 use native.Mathlib.Omega.{arith}
 use lib.ListN.{getD}
-use lib.Dec.{eqb}
-use borrow.Author.Tests.{eqb-true}
 use Rattle.laws.specs.Below.{either}
 use Rattle.stored.specs.Layout.{limits}
 use Rattle.check_refusals.specs.declared.Report.{Report}
 use Rattle.check_refusals.specs.Tables.{tablesOf}
-use Rattle.check_refusals.specs.Check.{rows, tableRows, checkNumber, reportOf, checkOf}
+use Rattle.check_refusals.specs.Check.{rows, tableRows, checkNumber, checkOf}
 use Rattle.check_meaning.specs.Tests.{Fails}
 use Rattle.check_meaning.specs.Accepted.{RightLength, RightMark, Within, RightCounts, RightVertices, RightBaseRecords, RightBaseMarks, RightFaces, RightUses, RightCuts, NoneHangs, Accepted}
 use Rattle.check_meaning.specs.Heading.{rule1-holds, rule2-holds, rule3-holds}
@@ -131,16 +129,6 @@ module _ (s : List ℕ) where
         (tt, (a .length, (a .mark, ((a .limits, m .counts), (m .vertices, (m .base-records, (m .base-marks, (m .faces, (m .uses, (m .cuts, (a .none-hangs, tt))))))))))) in
         zero-exactly .1 (λ k. rules-hold (suc k) (λ j l. r j) k (le-refl (suc k))),
   )
-
-  -- The number that check's report holds is this number.
-  pub report-number : checkOf s .number ≡ checkNumber s
-  unfolding checkOf reportOf
-  report-number =
-      let n = checkNumber s in
-      ⊎-elim
-      (λ t. rw t (sym (eqb-true n 0 t)))
-      (λ f. rw f (⊎-elim (λ t. rw t (sym (eqb-true n 10 t))) (λ g. rw g) (either (eqb n 10))))
-      (either (eqb n 0))
 
 -- One outcome for each input.
 pub outcome-unique : (s : List ℕ) (r r′ : Report) → r ≡ checkOf s → r′ ≡ checkOf s → r ≡ r′

@@ -3,4 +3,5 @@ pub mod Tables
 pub mod Assembled
 pub mod Refusals
 pub mod Check
+pub mod Rows
 pub mod Bounded

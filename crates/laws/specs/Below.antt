@@ -218,6 +218,11 @@ module _ (f : ℕ → ℕ) where
   pub greatest-next : (i g : ℕ) → g ≡ greatestBelow i f → max g (f i) ≡ greatestBelow (i + 1) f
   greatest-next i g inv = rw (add-one, greatest-suc, ← inv)
 
+  -- the greatest of numbers of at most b
+  pub greatest-at-most : (n b : ℕ) → ((k : ℕ) → k < n → f k ≤ b) → greatestBelow n f ≤ b
+  greatest-at-most zero b h = rw greatest-none (omega arith)
+  greatest-at-most (suc n) b h = rw greatest-suc (omega (arith, greatest-at-most n b (λ k l. h k (omega arith)), h n (le-refl (suc n))))
+
   -- a sum of numbers of at most b
   pub sum-at-most : (n b : ℕ) → ((k : ℕ) → k < n → f k ≤ b) → sumBelow n f ≤ n * b
   sum-at-most zero b h = rw sum-none (omega arith)

@@ -16,6 +16,10 @@ use Rattle.check_refusals.specs.Tables.{Tables, tablesOf, allRecords, isLeaf, p
 use Rattle.check_refusals.specs.Check.{checkOf}
 use Rattle.list_text.specs.Text.{figures, lineFeed}
 
+-- "a 128-byte line buffer"
+abbrev pub lineRoom : ℕ
+lineRoom = 128
+
 -- "one line, `refused ` and the number"
 unfoldable pub refusedLine : ℕ → List ℕ
 refusedLine number = figures (("refused ", number) ∷ []) ++ lineFeed

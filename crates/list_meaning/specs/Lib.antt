@@ -1,2 +1,3 @@
 -- What the listing says.
 pub mod Example
+pub mod Longest

@@ -11,7 +11,8 @@ use Rattle.check_refusals.specs.Check.{rows, tableRows, checkNumber}
 use Rattle.refine_selection.specs.Selected.{anotherJob, anotherRound, isNamed}
 use Rattle.refine_pass.specs.Stays.{job-stays, round-stays, base-vertices-stay, base-records-stay}
 use Rattle.refine_service.specs.Refine.{closed, resultOf, selectionRows, resultRows, refineNumber, refineBytes}
-use Rattle.refine_service.specs.Order.{numberedTo, first-at-most, selectionNumber, selection-13, selection-14}
+use Rattle.check_refusals.specs.Rows.{numberedTo, first-at-most}
+use Rattle.refine_service.specs.Order.{selectionNumber, selection-13, selection-14}
 use Rattle.refine_service.specs.Storing.{refine-selected}
 
 module _ (mesh selection : List ℕ) (room : ℕ) where

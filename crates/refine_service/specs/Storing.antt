@@ -28,7 +28,8 @@ use Rattle.refine_pass.specs.Puts.{refinedPut}
 use Rattle.refine_pass.specs.Law.{within, Working, refined-tables, refined-working}
 use Rattle.refine_pass.specs.Stays.{round-stays}
 use Rattle.refine_service.specs.Refine.{closed, nextRound, resultOf, selectionRows, resultRows, refineNumber, refineBytes}
-use Rattle.refine_service.specs.Order.{selectionNumber, not-last, first-now, after-check, after-selection}
+use Rattle.check_refusals.specs.Rows.{first-now, after-check}
+use Rattle.refine_service.specs.Order.{selectionNumber, not-last, after-selection}
 
 -- Room for one vertex and two records more than there may be.
 abbrev pub work : Layout

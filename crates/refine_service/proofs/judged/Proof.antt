@@ -6,7 +6,7 @@ use native.Mathlib.Omega.{arith}
 use denote.Ref.{now}
 use Rattle.check_refusals.specs.declared.Report.{Report}
 use Rattle.check_refusals.specs.Check.{checkNumber}
-use Rattle.refine_service.specs.Order.{check-small, report-number}
+use Rattle.check_refusals.specs.Rows.{check-small, report-number}
 use Rattle.refine_service.proofs.judged.Statement.{statement}
 use Rattle.refine_service.proofs.judged.Tie as tie
 
