@@ -318,6 +318,63 @@ pub fn separate(pieces: usize) -> Plain {
     plain
 }
 
+/// So many vertices, from 4 to 1,024, in few pieces: some that share nothing, and for each vertex that is
+/// left another piece on a face of the last.
+pub fn scattered(vertices: usize) -> Plain {
+    let mut plain = separate(vertices / 4);
+    // On along the way that goes through K's corners: a step in x, a step in y, a step in z.
+    for axis in 0..vertices % 4 {
+        let new = plain.places.len();
+        let mut place = plain.places[new - 1];
+        place[axis] += 128;
+        plain.places.push(place);
+        let piece = [3, 2, 1, 0].map(|before| new as u16 - before);
+        plain.pieces.push(piece);
+    }
+    plain
+}
+
+/// The first pieces of a block of 8 by 8 by 8 cubes, from 1 to 3,072, and the vertices they use: few for
+/// so many pieces.
+pub fn block(pieces: usize) -> Plain {
+    let mut plain = cubes([8, 8, 8], 64);
+    plain.pieces.truncate(pieces);
+    // Vertices are numbered as the pieces come upon them.
+    let last = plain.pieces.iter().flatten().max();
+    let last = usize::from(*last.expect("a piece"));
+    plain.places.truncate(last + 1);
+    plain
+}
+
+/// Two meshes of round 0 as one: all of the other's numbers come after those of the first. The other one
+/// is moved along x until no place is used twice; they share no vertex.
+pub fn beside(one: &Mesh, other: &Mesh) -> Mesh {
+    for mesh in [one, other] {
+        assert_eq!(mesh.records.len(), mesh.base_records, "nothing is cut");
+    }
+    let used: BTreeSet<[i16; 3]> = one.vertices.iter().map(|vertex| vertex.place).collect();
+    let moved = |[x, y, z]: [i16; 3], steps: i16| [x + 32 * steps, y, z];
+    let free = |&steps: &i16| {
+        let mut places = other.vertices.iter().map(|vertex| vertex.place);
+        places.all(|place| !used.contains(&moved(place, steps)))
+    };
+    let steps = (20..500).find(free).expect("a free place");
+    let mut both = one.clone();
+    let vertex = |vertex: &Vertex| Vertex {
+        place: moved(vertex.place, steps),
+        ..*vertex
+    };
+    both.vertices.extend(other.vertices.iter().map(vertex));
+    let first = one.vertices.len() as u16;
+    let record = |record: &Record| Record {
+        corners: record.corners.map(|corner| first + corner),
+        ..*record
+    };
+    both.records.extend(other.records.iter().map(record));
+    (both.base_vertices, both.base_records) = (both.vertices.len(), both.records.len());
+    both
+}
+
 /// 1,024 vertices and 3,072 base records: a block of 2 by 16 by 19 cubes and one piece apart, some
 /// of the block's pieces left out.
 pub fn full_base(random: &mut Random) -> Plain {

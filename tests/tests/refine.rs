@@ -3,8 +3,8 @@
 
 use compared::damage::damaged;
 use compared::meshes::{
-    chosen_anyhow, cubes, cut_alone, deepened, filled, ladder, open_leaves, random_base, separate,
-    single_pieces, Plain, K, LADDER,
+    beside, block, chosen_anyhow, cubes, cut_alone, deepened, filled, joined, ladder, open_leaves,
+    random_base, scattered, separate, single_pieces, Plain, K, LADDER,
 };
 use compared::random::Random;
 use compared::renumber::renumbered;
@@ -14,9 +14,12 @@ use second::{check, refine, refine_vec, selection, LARGEST_MESH, MOST_RECORDS, M
 use std::io::Write;
 use std::sync::atomic::{AtomicUsize, Ordering};
 
-/// The fewest random inputs, and the fewest inputs of each number that refine can give.
-const FEWEST: u64 = 5_000;
-const FEWEST_OF_EACH: u64 = 20;
+/// The fewest inputs, the fewest of them that are random, the fewest that are accepted, and the fewest of
+/// each number that refine can give.
+const FEWEST: u64 = 25_000;
+const FEWEST_RANDOM: u64 = 24_000;
+const FEWEST_ACCEPTED: u64 = 10_000;
+const FEWEST_OF_EACH: u64 = 100;
 
 /// Bytes on both sides of the output buffer.
 const GUARD: usize = 64;
@@ -63,6 +66,27 @@ fn read(bytes: &[u8]) -> Mesh {
     Mesh::read(bytes).expect("a stored mesh")
 }
 
+/// "1,024 vertices or 3,072 records".
+const MOST: [usize; 2] = [MOST_VERTICES, MOST_RECORDS];
+
+/// Vertices and records.
+fn counts(mesh: &Mesh) -> [usize; 2] {
+    [mesh.vertices.len(), mesh.records.len()]
+}
+
+/// What a record is in any numbering: its corners' places; its marks; its refinement edge, flag and
+/// generation; whether it is a leaf.
+type Unnumbered = ([Option<[i16; 3]>; 4], [u8; 4], [u8; 3], bool);
+
+fn unnumbered(mesh: &Mesh) -> Vec<Unnumbered> {
+    let told = |record: &Record| {
+        let places = record.corners.map(|corner| mesh.place(corner));
+        let others = [record.edge, record.flag, record.generation];
+        (places, record.marks, others, record.is_leaf())
+    };
+    mesh.records.iter().map(told).collect()
+}
+
 /// What was compared.
 #[derive(Default)]
 struct Tally {
@@ -74,10 +98,26 @@ struct Tally {
     numbers: [u64; 21],
     /// Calls by output buffer: 0, one less than the result, the result, full-size, longer.
     rooms: [u64; 5],
+    /// Calls given 11 to 19 with an output buffer shorter than any result: 20 comes last.
+    before_20: u64,
+    /// Inputs that break several of the rules 11 to 19.
+    at_once: u64,
     /// Accepted inputs in which more was cut than was named.
     closed: u64,
+    /// Results deeper than both the deepest piece before and the children of the selected ones.
+    deeper: u64,
+    /// Results with a leaf of generation 15.
+    deepest: u64,
+    /// Accepted inputs that were accepted in another numbering too, with the same cuts: those of them
+    /// in whose mesh something is cut.
+    renumbered: u64,
+    /// Inputs given 19 whose mesh is a result of earlier rounds.
+    rounds_to_19: u64,
     /// Results of 1,024 vertices, and of 3,072 records.
     full: [u64; 2],
+    /// Closings that reach 1,024 vertices, one more and two more, and 3,072 records, one more and two
+    /// more. The selected alone would have room.
+    closings: [[u64; 3]; 2],
 }
 
 impl Tally {
@@ -130,6 +170,7 @@ impl Tally {
         let other = [0, 1, 3, 4][random.below(4)];
         let short = input.mesh.len() < 200;
         let mut answer = None;
+        let mut result = Vec::new();
         let mut too_short = false;
         for kind in (0..5).filter(|&kind| short || kind == 2 || kind == other) {
             let room = rooms[kind];
@@ -140,6 +181,7 @@ impl Tally {
             } else {
                 assert!(out.iter().all(|&byte| byte == 0), "{name}: zero throughout");
             }
+            self.before_20 += u64::from((11..20).contains(&number) && room < length);
             if number == 20 {
                 assert!(room < length, "{name}: 20 in {room} bytes");
                 too_short = true;
@@ -149,6 +191,7 @@ impl Tally {
             }
             if number == 0 && kind == 2 {
                 self.judge(name, input, &out);
+                result = out;
             }
         }
         let answer = answer.expect("a buffer that is long enough");
@@ -156,19 +199,21 @@ impl Tally {
         self.inputs += 1;
         self.numbers[answer as usize] += 1;
         self.numbers[20] += u64::from(too_short);
+        self.rounds_to_19 += u64::from(answer == 19 && read(&input.mesh).round > 0);
         match answer {
-            0 => Ok(self.call(name, input, length, random).1),
+            0 => Ok(result),
             number => Err(number),
         }
     }
 
-    /// Whatever refine accepts, check accepts, with the volume that was there; what was named is cut,
-    /// the round is one higher, and nothing else that was there is changed but by being cut.
+    /// Whatever refine accepts, check accepts, with the volume that was there and no deeper than may be;
+    /// what was named is cut, the round is one higher, and nothing else that was there is changed but by
+    /// being cut.
     fn judge(&mut self, name: &str, input: &Input, result: &[u8]) {
-        let report = tmb_check(result);
+        let (before, report) = (check(&input.mesh), tmb_check(result));
         assert_eq!(report, check(result), "{name}");
         assert_eq!(report.number, 0, "{name}");
-        assert_eq!(report.sixfold, check(&input.mesh).sixfold, "{name}");
+        assert_eq!(report.sixfold, before.sixfold, "{name}");
         let (old, new) = (read(&input.mesh), read(result));
         assert_eq!((new.job, new.round), (old.job, old.round + 1), "{name}");
         assert_eq!(new.base_vertices, old.base_vertices, "{name}");
@@ -178,6 +223,13 @@ impl Tally {
             .chunks_exact(2)
             .map(|two| usize::from(u16::from_le_bytes([two[0], two[1]])))
             .collect();
+        // "No piece is deeper than the least multiple of three that reaches both the deepest piece
+        // before and the children of the selected ones."
+        let generations = named.iter().map(|&number| old.records[number].generation);
+        let children = generations.map(|generation| u64::from(generation) + 1);
+        let both = children.fold(before.deepest, u64::max);
+        let deepest = both.next_multiple_of(3);
+        assert!(report.deepest <= deepest, "{name}: too deep");
         let mut cut = 0;
         for (number, (old, new)) in old.records.iter().zip(&new.records).enumerate() {
             let first_child = old.first_child;
@@ -198,6 +250,8 @@ impl Tally {
             "{name}: an empty selection cuts nothing"
         );
         self.closed += u64::from(cut > named.len());
+        self.deeper += u64::from(report.deepest > both);
+        self.deepest += u64::from(report.deepest == 15);
         self.full[0] += u64::from(new.vertices.len() == MOST_VERTICES);
         self.full[1] += u64::from(new.records.len() == MOST_RECORDS);
     }
@@ -216,6 +270,49 @@ impl Tally {
         }
     }
 
+    /// What was accepted is accepted in another numbering too, with the parents below made vertices and
+    /// the children in adjacent pairs above their parent, else in no order of refine's. The same is cut.
+    fn also_renumbered(&mut self, mesh: &Mesh, numbers: &[u16], finer: &Mesh, random: &mut Random) {
+        let records = unnumbered(mesh);
+        let named = |record: &Unnumbered| {
+            let mut numbers = numbers.iter();
+            numbers.any(|&number| records[usize::from(number)] == *record)
+        };
+        let other = renumbered(mesh, random);
+        let others = (0..).zip(unnumbered(&other));
+        let others = others.filter(|(_, record)| named(record));
+        let others: Vec<u16> = others.map(|(number, _)| number).collect();
+        // Pieces may overlap: where records are alike, nothing tells which of them is named.
+        if others.len() != numbers.len() {
+            return;
+        }
+        let other = self.accepted("renumbered", &Input::new(&other, &others), random);
+        let [mut wanted, mut cut] = [finer, &other].map(unnumbered);
+        wanted.sort_unstable();
+        cut.sort_unstable();
+        assert!(cut == wanted, "renumbered: something else is cut");
+        self.renumbered += u64::from(mesh.records.len() > mesh.base_records);
+    }
+
+    /// Record 0 alone could be cut, and closing that would reach those counts of vertices and records:
+    /// accepted with just those if neither is beyond its limit, else 19.
+    fn closing(&mut self, mesh: &Mesh, reached: [usize; 2], random: &mut Random) {
+        let [vertices, records] = counts(mesh);
+        let room = vertices < MOST_VERTICES && records + 2 <= MOST_RECORDS;
+        assert!(room && records + 2 < reached[1], "closing decides");
+        let fits = (0..2).all(|table| reached[table] <= MOST[table]);
+        match self.compare("a closing", &Input::new(mesh, &[0]), random) {
+            Ok(bytes) => assert_eq!((counts(&read(&bytes)), true), (reached, fits), "a closing"),
+            Err(number) => assert_eq!((number, fits), (19, false), "a closing"),
+        }
+        for (table, closings) in self.closings.iter_mut().enumerate() {
+            let past = reached[table].checked_sub(MOST[table]);
+            if let Some(times) = past.and_then(|past| closings.get_mut(past)) {
+                *times += 1;
+            }
+        }
+    }
+
     fn add(&mut self, other: &Tally) {
         let sum = |mine: &mut [u64], theirs: &[u64]| {
             mine.iter_mut()
@@ -225,10 +322,19 @@ impl Tally {
         self.inputs += other.inputs;
         self.random += other.random;
         self.calls += other.calls;
+        self.before_20 += other.before_20;
+        self.at_once += other.at_once;
         self.closed += other.closed;
+        self.deeper += other.deeper;
+        self.deepest += other.deepest;
+        self.renumbered += other.renumbered;
+        self.rounds_to_19 += other.rounds_to_19;
         sum(&mut self.numbers, &other.numbers);
         sum(&mut self.rooms, &other.rooms);
         sum(&mut self.full, &other.full);
+        for (mine, theirs) in self.closings.iter_mut().zip(&other.closings) {
+            sum(mine, theirs);
+        }
     }
 }
 
@@ -237,26 +343,33 @@ type Part = fn(&mut Tally, &mut Random);
 
 /// The parts that go through a list of inputs, and each part of random inputs with the times it is done,
 /// each time with numbers of its own.
-const LISTED: [Part; 12] = [
+const LISTED: [Part; 16] = [
     long_ladder,
+    records_by_ladders,
+    records_by_other_parts,
+    largest_by_closing,
+    vertices_by_closing,
     full_records,
     full_tables,
     full_vertices,
-    full_by_closing,
     worked,
     worked_cube,
     selection_lengths,
+    greatest_selections,
     selection_marks,
     jobs_and_rounds,
     named_records,
     refused_meshes,
 ];
-const RANDOM: [(Part, usize); 5] = [
-    (jobs, 120),
-    (other_meshes, 120),
-    (singles, 4),
-    (wrong_selections, 450),
-    (damaged_meshes, 150),
+const RANDOM: [(Part, usize); 8] = [
+    (to_full_tables, 3),
+    (wrong_on_full_tables, 6),
+    (to_generation_15, 40),
+    (jobs, 240),
+    (other_meshes, 240),
+    (singles, 18),
+    (wrong_selections, 110),
+    (damaged_meshes, 300),
 ];
 
 /// Built by the proved build.
@@ -316,15 +429,12 @@ fn worked(tally: &mut Tally, random: &mut Random) {
     let two = tally.accepted("then select 1 and 2", &Input::new(&cut, &[1, 2]), random);
     assert_eq!(two.records.len(), 7);
     let from_there = |numbers| Input::new(&two, numbers);
-    let counts = |mesh: &Mesh| {
-        let leaves = mesh.leaves().count();
-        (mesh.vertices.len(), mesh.records.len(), leaves)
-    };
+    let counts = |mesh: &Mesh| (counts(mesh), mesh.leaves().count());
     let four = tally.accepted("select 4 alone", &from_there(&[4]), random);
-    assert_eq!(counts(&four), (8, 11, 6));
+    assert_eq!(counts(&four), ([8, 11], 6));
     assert!(!four.records[5].is_leaf(), "5 is cut too");
     let all = tally.accepted("select 3 to 6", &from_there(&[3, 4, 5, 6]), random);
-    assert_eq!(counts(&all), (10, 15, 8));
+    assert_eq!(counts(&all), ([10, 15], 8));
     for (_, leaf) in all.leaves() {
         assert_eq!(all.sixfold(leaf), Some(32_768));
     }
@@ -345,7 +455,7 @@ fn worked_cube(tally: &mut Tally, random: &mut Random) {
     let cube = built(&cubes([1, 1, 1], 64), 3);
     for number in 0..6 {
         let cut = tally.accepted("the cube", &Input::new(&cube, &[number]), random);
-        assert_eq!((cut.vertices.len(), cut.records.len()), (9, 18));
+        assert_eq!(counts(&cut), [9, 18]);
         let report = tmb_check(&cut.bytes());
         assert_eq!((report.leaves, report.sixfold), (12, 1_572_864));
     }
@@ -367,11 +477,50 @@ fn selection_lengths(tally: &mut Tally, random: &mut Random) {
         tally.given("another count", &other, 11, random);
     }
     tally.accepted("none", &Input::new(&cube, &[]), random);
-    // The greatest count.
-    let many: Vec<u16> = (0..65_535).collect();
-    tally.given("65,535 numbers", &Input::new(&cube, &many), 15, random);
     let other = Input::new(&cube, &[]).poked(0, b"xxx");
     tally.given("a wrong mark", &other, 12, random);
+}
+
+/// The greatest count, with as many numbers and without, and the greatest number.
+fn greatest_selections(tally: &mut Tally, random: &mut Random) {
+    let cube = built(&cubes([1, 1, 1], 64), 3);
+    let cut = tally.accepted("the cube", &Input::new(&cube, &[0]), random);
+    for mesh in [&cube, &cut] {
+        let last = mesh.records.len() as u16 - 1;
+        for numbers in [
+            (0..65_535).collect(),
+            (1..=65_535).collect(),
+            vec![last; 65_535],
+            vec![65_535; 65_535],
+            (0..65_535).rev().collect(),
+        ] {
+            let many = Input::new(mesh, &numbers);
+            tally.given("65,535 numbers", &many, 15, random);
+            let version = many.poked(3, &[2]);
+            tally.given("65,535 numbers, a wrong version", &version, 12, random);
+            let mut other = many.clone();
+            other.selection.truncate(13 + 2 * 65_534);
+            tally.given("a number less than 65,535", &other, 11, random);
+            other.selection.push(255);
+            tally.given("a byte less than 65,535 numbers", &other, 11, random);
+            let mut other = many.clone();
+            other.selection.push(255);
+            tally.given("a byte more than 65,535 numbers", &other, 11, random);
+            other.selection.push(255);
+            tally.given("a number more than 65,535", &other, 11, random);
+            // 65,536 is 0 in two bytes, and a count of 0 has no numbers.
+            let none = other.poked(11, &[0, 0]);
+            tally.given("65,536 numbers, a count of 0", &none, 11, random);
+        }
+        for numbers in [&[last][..], &[last - 1, last], &[]] {
+            let counted = Input::new(mesh, numbers).poked(11, &[255, 255]);
+            tally.given("a count of 65,535", &counted, 11, random);
+            let with = [numbers, &[65_535]].concat();
+            tally.given("65,535 named", &Input::new(mesh, &with), 15, random);
+            let below = [numbers, &[65_534]].concat();
+            tally.given("65,534 named", &Input::new(mesh, &below), 15, random);
+        }
+    }
 }
 
 /// 12: each byte of the mark and of the version.
@@ -489,6 +638,15 @@ fn refused_meshes(tally: &mut Tally, random: &mut Random) {
         other.mesh.truncate(length);
         tally.given("K's first bytes", &other, 1, random);
     }
+    for at in [0, 1, 2, 3, 4, 19] {
+        for bit in 0..8 {
+            let mut other = good.clone();
+            other.mesh[at] ^= 1 << bit;
+            tally.given("K's mark, version or byte 19", &other, 2, random);
+            other.selection.clear();
+            tally.given("and no selection", &other, 2, random);
+        }
+    }
     // The version, the count of base vertices, a coordinate, the generation, a mark.
     for (at, byte, number) in [(3, 2, 2), (12, 4, 3), (20, 16, 4), (74, 1, 5), (70, 0, 6)] {
         for selection in [good.selection.clone(), Vec::new()] {
@@ -531,7 +689,7 @@ fn full_vertices(tally: &mut Tally, random: &mut Random) {
     tally.given("one more", &Input::new(&full, &[0]), 19, random);
     tally.accepted("nothing more", &Input::new(&full, &[]), random);
     let mesh = built(&separate(256), 2);
-    for number in 0..FEWEST_OF_EACH as u16 {
+    for number in (0..256).step_by(3) {
         tally.given(
             "1,024 base vertices",
             &Input::new(&mesh, &[number]),
@@ -544,50 +702,112 @@ fn full_vertices(tally: &mut Tally, random: &mut Random) {
     tally.given("18 before 19", &Input::new(&last, &[0]), 18, random);
 }
 
-/// The selected record alone would fit: closing a ladder fills the vertices; other pieces stand apart.
-fn full_by_closing(tally: &mut Tally, random: &mut Random) {
-    let rungs = 10;
-    for (apart, number) in [(248, 0), (249, 19)] {
-        let mut plain = ladder(rungs);
-        let others = separate(apart);
-        let first = plain.places.len() as u16;
-        plain.places.extend(others.places);
-        let moved = others.pieces.iter().map(|piece| piece.map(|n| first + n));
-        plain.pieces.extend(moved);
-        let mut markings = vec![LADDER; usize::from(rungs)];
-        markings.resize(plain.pieces.len(), (2, [4, 2, 2, 1]));
-        let mesh = plain.marked(7, &markings);
-        assert!(mesh.vertices.len() < MOST_VERTICES, "room for the selected");
-        let input = Input::new(&mesh, &[0]);
-        match tally.compare("a ladder", &input, random) {
-            Ok(bytes) => {
-                assert_eq!(number, 0);
-                assert_eq!(read(&bytes).vertices.len(), MOST_VERTICES);
-            }
-            Err(given) => assert_eq!(given, number, "a ladder"),
+/// A ladder, marked so that cutting its first piece cuts each one after it.
+fn marked_ladder(pieces: u16) -> Mesh {
+    ladder(pieces).marked(7, &vec![LADDER; usize::from(pieces)])
+}
+
+/// What cutting the first of a ladder's pieces gives: each rung but the lowest is halved, and every
+/// piece but the first is cut into four.
+fn ladder_cut(pieces: u16) -> [usize; 2] {
+    let pieces = usize::from(pieces);
+    [3 * pieces + 2, 7 * pieces - 4]
+}
+
+/// A ladder of 340 pieces: cutting the first closes in 341 passes.
+fn long_ladder(tally: &mut Tally, random: &mut Random) {
+    let input = Input::new(&marked_ladder(340), &[0]);
+    let cut = tally.accepted("the ladder", &input, random);
+    assert_eq!(counts(&cut), ladder_cut(340));
+    assert_eq!(counts(&cut), [1_022, 2_376]);
+}
+
+/// Vertices and records of a part that is closed alone, its record 0 named.
+fn closed_alone(tally: &mut Tally, part: &Mesh, random: &mut Random) -> [usize; 2] {
+    let closed = tally.accepted("the part alone", &Input::new(part, &[0]), random);
+    tally.also_renumbered(part, &[0], &closed, random);
+    counts(&closed)
+}
+
+/// Closing a ladder fills the vertices, or would take one or two more than there may be: other pieces
+/// stand apart, and stay as they are.
+fn vertices_by_closing(tally: &mut Tally, random: &mut Random) {
+    for pieces in [3, 4, 10, 20, 40] {
+        let part = marked_ladder(pieces);
+        let [vertices, records] = closed_alone(tally, &part, random);
+        assert_eq!([vertices, records], ladder_cut(pieces));
+        for past in 0..3 {
+            let apart = scattered(MOST_VERTICES + past - vertices);
+            let reached = [vertices + apart.places.len(), records + apart.pieces.len()];
+            assert_eq!(reached[0], MOST_VERTICES + past);
+            assert!(reached[1] < MOST_RECORDS, "the records have room");
+            let mesh = beside(&part, &apart.built(9));
+            tally.closing(&mesh, reached, random);
         }
     }
 }
 
-/// A ladder of 340 pieces: cutting the first closes in 341 passes. Each rung but the last is halved by the piece before
-/// it, so that every piece but the first is cut into four.
-fn long_ladder(tally: &mut Tally, random: &mut Random) {
-    let mesh = ladder(340).marked(7, &[LADDER; 340]);
-    let cut = tally.accepted("the ladder", &Input::new(&mesh, &[0]), random);
-    assert_eq!((cut.vertices.len(), cut.records.len()), (1_022, 2_376));
+/// Closing the part fills the records, or would take one or two more than there may be: before the last
+/// cut there is room for two, for one or for none. A block stands apart, and stays as it is.
+fn records_by_closing(tally: &mut Tally, part: &Mesh, random: &mut Random) {
+    let [vertices, records] = closed_alone(tally, part, random);
+    for past in 0..3 {
+        let apart = block(MOST_RECORDS + past - records);
+        let reached = [vertices + apart.places.len(), records + apart.pieces.len()];
+        assert!(reached[0] < MOST_VERTICES, "the vertices have room");
+        assert_eq!(reached[1], MOST_RECORDS + past);
+        let mesh = beside(part, &apart.built(9));
+        tally.closing(&mesh, reached, random);
+    }
 }
 
-/// 8 by 8 by 8 cubes but for a few pieces, and a piece apart: cutting that makes two records more.
+fn records_by_ladders(tally: &mut Tally, random: &mut Random) {
+    for pieces in [3, 10] {
+        records_by_closing(tally, &marked_ladder(pieces), random);
+    }
+}
+
+/// The cube, and pieces joined and marked anyhow.
+fn records_by_other_parts(tally: &mut Tally, random: &mut Random) {
+    let cube = built(&cubes([1, 1, 1], 64).mixed(random), 3);
+    records_by_closing(tally, &cube, random);
+    let part = loop {
+        let mesh = random_base(random, 6);
+        let [_, records] = closed_alone(tally, &mesh, random);
+        if records > mesh.records.len() + 4 {
+            break mesh;
+        }
+    };
+    records_by_closing(tally, &part, random);
+}
+
+/// Closing a ladder fills both tables: the largest mesh. Or it would fill one, and take one more than the
+/// other may have.
+fn largest_by_closing(tally: &mut Tally, random: &mut Random) {
+    for (pieces, others, past) in [
+        (2_603, 209, [0, 0]),
+        (2_602, 210, [1, 0]),
+        (2_604, 209, [0, 1]),
+    ] {
+        let apart = [block(pieces), scattered(others)];
+        let mut reached = ladder_cut(60);
+        let mut mesh = marked_ladder(60);
+        for plain in apart {
+            reached[0] += plain.places.len();
+            reached[1] += plain.pieces.len();
+            mesh = beside(&mesh, &plain.built(9));
+        }
+        assert_eq!(reached, [MOST[0] + past[0], MOST[1] + past[1]]);
+        tally.closing(&mesh, reached, random);
+    }
+}
+
+/// A block but for a few pieces, and a piece apart: cutting that makes two records more.
 fn full_records(tally: &mut Tally, random: &mut Random) {
     for (pieces, number) in [(MOST_RECORDS - 2, 0), (MOST_RECORDS - 1, 19)] {
-        let mut plain = cubes([8, 8, 8], 64);
-        plain.pieces.truncate(pieces - 1);
-        let first = plain.places.len() as u16;
-        plain.places.extend(K.map(|[x, y, z]| [x - 640, y, z]));
-        plain.pieces.push([0, 1, 2, 3].map(|slot| first + slot));
-        let mesh = built(&plain, 5);
+        let mesh = beside(&block(pieces - 1).built(5), &k());
         let input = Input::new(&mesh, &[pieces as u16 - 1]);
-        tally.given("cubes and a piece apart", &input, number, random);
+        tally.given("a block and a piece apart", &input, number, random);
     }
 }
 
@@ -601,6 +821,70 @@ fn full_tables(tally: &mut Tally, random: &mut Random) {
     assert_eq!((number, out), (20, vec![0; LARGEST_MESH - 1]));
     let named = random.pick(&open_leaves(&mesh)).expect("a leaf");
     tally.given("full tables", &Input::new(&mesh, &[named]), 19, random);
+}
+
+/// Round after round, a deepest leaf named each time, until one has generation 15: the first of them, or
+/// any, which cuts more.
+fn to_generation_15(tally: &mut Tally, random: &mut Random) {
+    let mut mesh = match random.below(12) {
+        0 => cubes([1, 1, 1], 64).mixed(random).marked_anyhow(random),
+        1..=3 => k(),
+        _ => {
+            let pieces = 1 + random.below(4);
+            joined(random, pieces).marked_anyhow(random)
+        }
+    };
+    let any = random.one_in(2);
+    loop {
+        let deepest = mesh.leaves().map(|(_, leaf)| leaf.generation).max();
+        let leaves = mesh.leaves();
+        let leaves = leaves.filter(|(_, leaf)| Some(leaf.generation) == deepest);
+        let mut leaves: Vec<u16> = leaves.map(|(number, _)| number as u16).collect();
+        if !any {
+            leaves.truncate(1);
+        }
+        let numbers = [random.pick(&leaves).expect("a leaf")];
+        let input = Input::new(&mesh, &numbers);
+        if deepest == Some(15) {
+            return tally.given("of 15", &input, 17, random);
+        }
+        let finer = match tally.compare("a deepest leaf", &input, random) {
+            Ok(bytes) => read(&bytes),
+            Err(number) => return assert_eq!(number, 19, "a deepest leaf"),
+        };
+        if random.one_in(4) {
+            tally.also_renumbered(&mesh, &numbers, &finer, random);
+        }
+        // Some chains go on in another numbering.
+        mesh = match random.one_in(8) {
+            true => renumbered(&finer, random),
+            false => finer,
+        };
+    }
+}
+
+/// Round after round until the tables are full: half of the leaves are named at first, and after each 19
+/// a quarter as many, down to very few.
+fn to_full_tables(tally: &mut Tally, random: &mut Random) {
+    let mut mesh = match random.below(3) {
+        0 => k(),
+        1 => built(&separate(40 + random.below(60)), 4),
+        _ => random_base(random, 6),
+    };
+    let mut refused = 0;
+    while refused < 5 {
+        let mut numbers = open_leaves(&mesh);
+        random.shuffle(&mut numbers);
+        numbers.truncate((numbers.len() >> (2 * refused + 1)).max(1));
+        numbers.sort_unstable();
+        match tally.compare("towards full tables", &Input::new(&mesh, &numbers), random) {
+            Ok(bytes) => mesh = read(&bytes),
+            Err(number) => {
+                assert_eq!(number, 19, "towards full tables");
+                refused += 1;
+            }
+        }
+    }
 }
 
 /// Refined round after round by random selections; each result is the next round's mesh. Bytes of the
@@ -618,7 +902,13 @@ fn rounds(tally: &mut Tally, mut mesh: Mesh, random: &mut Random) {
                 .ok();
         }
         match tally.compare("a round", &input, random) {
-            Ok(bytes) => mesh = read(&bytes),
+            Ok(bytes) => {
+                let finer = read(&bytes);
+                if random.one_in(2) {
+                    tally.also_renumbered(&mesh, &numbers, &finer, random);
+                }
+                mesh = finer;
+            }
             Err(number) => return assert_eq!(number, 19, "a round"),
         }
         let again = Input {
@@ -680,19 +970,45 @@ fn other_meshes(tally: &mut Tally, random: &mut Random) {
     rounds(tally, mesh, random);
 }
 
-/// A piece of each marking, cut until generation 4: each type, and the flag set and unset.
+/// A piece of each marking, and so of each type: all leaves cut until generation 4, the flag set and
+/// unset, or some leaves in more rounds.
 fn singles(tally: &mut Tally, random: &mut Random) {
     for mut mesh in single_pieces(random) {
-        for _ in 0..4 {
-            let input = Input::new(&mesh, &open_leaves(&mesh));
-            mesh = tally.accepted("a single piece", &input, random);
+        let all = random.one_in(2);
+        for _ in 0..if all { 4 } else { 8 } {
+            let numbers = match all {
+                true => open_leaves(&mesh),
+                false => chosen_anyhow(&mesh, random),
+            };
+            let finer = tally.accepted("a single piece", &Input::new(&mesh, &numbers), random);
+            if random.one_in(4) {
+                tally.also_renumbered(&mesh, &numbers, &finer, random);
+            }
+            mesh = finer;
         }
     }
 }
 
-/// A selection wrong in several ways together: the first rule broken names the refusal.
+/// Selections wrong in several ways together: the first rule broken names the refusal.
 fn wrong_selections(tally: &mut Tally, random: &mut Random) {
-    let mut mesh = deepened(k());
+    let mesh = deepened(k());
+    for _ in 0..20 {
+        wrong_selection(tally, mesh.clone(), random);
+    }
+}
+
+/// Wrong selections of a mesh whose vertices are full: no cut has room.
+fn wrong_on_full_tables(tally: &mut Tally, random: &mut Random) {
+    let apart = MOST_VERTICES - deepened(k()).vertices.len();
+    let mesh = deepened(beside(&k(), &built(&scattered(apart), 7)));
+    assert_eq!(mesh.vertices.len(), MOST_VERTICES);
+    for _ in 0..20 {
+        wrong_selection(tally, mesh.clone(), random);
+    }
+}
+
+/// Each of 11 to 18 broken or not, at random; 19 too, if the mesh has no room.
+fn wrong_selection(tally: &mut Tally, mut mesh: Mesh, random: &mut Random) {
     let mut broken = [false; 8].map(|_| random.one_in(12));
     // One at least, most of the time.
     broken[random.below(8)] |= !random.one_in(8);
@@ -714,9 +1030,10 @@ fn wrong_selections(tally: &mut Tally, random: &mut Random) {
     }
     numbers.sort_unstable();
     if order {
-        match random.below(3) {
+        match random.below(4) {
             0 => numbers.push(mesh.records.len() as u16 + random.below(2) as u16),
-            1 => numbers.push(numbers[numbers.len() - 1]),
+            1 => numbers.push(65_535),
+            2 => numbers.push(numbers[numbers.len() - 1]),
             _ => numbers.insert(0, mesh.records.len() as u16 - 1),
         }
     }
@@ -741,16 +1058,22 @@ fn wrong_selections(tally: &mut Tally, random: &mut Random) {
         input.selection[random.below(5)] ^= 1 << random.below(8);
     }
     if length {
-        match random.below(3) {
+        match random.below(4) {
             0 => input.selection.push(0),
             1 => input.selection.truncate(input.selection.len() - 2),
+            2 => input.selection[11..13].fill(255),
             _ => input.selection[11] ^= 1 << random.below(8),
         }
     }
-    // The places are in the order of the numbers 11 to 18.
-    let first = broken.into_iter().position(|broken| broken);
-    let number = first.map_or(0, |place| 11 + place as u32);
+    // The places are in the order of the numbers 11 to 18, and 19 comes after them.
+    let full = mesh.vertices.len() == MOST_VERTICES;
+    let rules = (11..).zip(broken.into_iter().chain([full]));
+    let rules: Vec<u32> = rules
+        .filter_map(|(number, broken)| broken.then_some(number))
+        .collect();
+    let number = rules.first().copied().unwrap_or(0);
     tally.given("a wrong selection", &input, number, random);
+    tally.at_once += u64::from(rules.len() > 1);
 }
 
 /// Damaged meshes: refine's number is check's, whatever the selection; where check accepts the mesh all
@@ -834,14 +1157,45 @@ fn the_proved_refine_and_the_second_agree() {
         "buffers of 0, one less, the result, full-size, longer {:?}",
         tally.rooms
     ));
+    line(format!(
+        "buffers shorter than any result, and 11 to 19: {}",
+        tally.before_20
+    ));
+    line(format!("several of 11 to 19 broken in {}", tally.at_once));
     line(format!("more cut than named in {}", tally.closed));
+    line(format!(
+        "deeper than what was there and what was named in {}, generation 15 in {}",
+        tally.deeper, tally.deepest
+    ));
+    line(format!(
+        "the same cuts in another numbering in {}",
+        tally.renumbered
+    ));
     line(format!("1,024 vertices, 3,072 records in {:?}", tally.full));
+    line(format!(
+        "closings to 1,024 vertices, one and two past, {:?}; to 3,072 records {:?}",
+        tally.closings[0], tally.closings[1]
+    ));
+    line(format!("19 after earlier rounds: {}", tally.rounds_to_19));
 
-    assert!(tally.random >= FEWEST);
+    assert!(tally.inputs >= FEWEST);
+    assert!(tally.random >= FEWEST_RANDOM);
+    assert!(tally.numbers[0] >= FEWEST_ACCEPTED);
     for (number, &times) in tally.numbers.iter().enumerate() {
         assert!(times >= FEWEST_OF_EACH, "number {number}: {times} times");
     }
     assert!(tally.rooms.iter().all(|&times| times >= 1_000));
-    assert!(tally.closed >= 100);
-    assert!(tally.full.iter().all(|&times| times >= 2));
+    assert!(tally.before_20 >= 1_000);
+    assert!(tally.at_once >= 500);
+    assert!(tally.closed >= 3_000);
+    assert!(tally.deeper >= 500);
+    assert!(tally.deepest >= 50);
+    assert!(tally.renumbered >= 1_000);
+    assert!(tally.rounds_to_19 >= 15);
+    assert!(tally.full.iter().all(|&times| times >= 5));
+    assert!(tally
+        .closings
+        .as_flattened()
+        .iter()
+        .all(|&times| times >= 4));
 }
