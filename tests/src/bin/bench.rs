@@ -2,12 +2,12 @@
 //! Markdown tables: medians in milliseconds, and the ratio.
 
 use compared::meshes::{
-    cubes, filled, full_base, ladder, open_leaves, refined, separate, Plain, LADDER,
+    block, cubes, filled, full_base, ladder, open_leaves, refined, separate, Plain, LADDER,
 };
 use compared::random::Random;
 use compared::{tmb_build, tmb_check, tmb_refine};
 use second::mesh::Mesh;
-use second::{build, check, refine, refine_vec, selection, Report, LARGEST_MESH};
+use second::{build, check, refine, refine_vec, selection, Report, LARGEST_MESH, MOST_RECORDS};
 use std::hint::black_box;
 use std::time::Instant;
 
@@ -129,8 +129,9 @@ fn refinements() {
     refine_row("5 by 5 by 5 cubes, all", &five, &open_leaves(&five));
     let rungs = ladder(340).marked(1, &[LADDER; 340]);
     refine_row("the ladder of 340 pieces, its first", &rungs, &[0]);
-    let nearly = cubes([8, 8, 7], 64).built(1);
-    refine_row("8 by 8 by 7 cubes, one", &nearly, &[0]);
+    // Six pieces meet in the first cube's diagonal: twelve records more, and the table is full.
+    let nearly = block(MOST_RECORDS - 12).built(1);
+    refine_row("8 by 8 by 8 cubes but two, one", &nearly, &[0]);
     refine_row(
         "8 by 8 by 8 cubes, none",
         &cubes([8, 8, 8], 64).built(1),
