@@ -1,0 +1,79 @@
+//! How a run that was not accepted ends: refused, with a number and its sentence, or not carried out.
+
+use std::fmt;
+use std::io;
+
+/// "Numbers we give back": the row of the table for each number, in its own words.
+pub const SENTENCES: [&str; 22] = [
+    "accepted",
+    "under 20 bytes, or length is not 20 + 10·vertices + 17·records",
+    "wrong mark or version, or byte 19 not 0",
+    "a count beyond its bounds, or base above all",
+    "base coordinate off the grid, base parent not 65,535, two base vertices at one place; made vertex \
+     without p < q < its own number, not exactly halfway, or a parent pair used twice",
+    "base record with equal corners, a corner not in the base, sixfold volume 0, generation or flag \
+     not 0",
+    "base record with an edge code above 5, a mark not on its face, or a refinement face not marked \
+     with the refinement edge",
+    "a face in three base records, two base records with the same four corners, or a shared face with \
+     two marks",
+    "a base vertex in no base record",
+    "a cut record whose children aren't what cutting gives, or don't have greater numbers; a record \
+     beyond the base that isn't the child of exactly one; a made vertex that is the midpoint of no cut \
+     record's refinement edge; a generation above 15",
+    "a hanging edge",
+    "selection under 13 bytes, or length not 13 + 2n",
+    "selection's mark or version wrong",
+    "another job",
+    "another round: the selection has expired",
+    "numbers not strictly rising, or one not below the record count",
+    "a named record is already cut",
+    "a named record has generation 15",
+    "the round is 65,535",
+    "the closed result exceeds 1,024 vertices or 3,072 records",
+    "the output buffer is shorter than the result",
+    "build: coordinates not three a vertex, or corners not four a piece",
+];
+
+/// The ending of a run that was not accepted.
+#[derive(Debug)]
+pub enum Ending {
+    /// A service refused: its number, and what explains it where that is plain.
+    Refused { number: u32, why: Option<String> },
+    /// The command can't be carried out as given.
+    Wrong(String),
+}
+
+impl Ending {
+    /// The exit status.
+    pub fn status(&self) -> u8 {
+        match self {
+            Ending::Refused { .. } => 1,
+            Ending::Wrong(_) => 2,
+        }
+    }
+}
+
+impl fmt::Display for Ending {
+    fn fmt(&self, out: &mut fmt::Formatter) -> fmt::Result {
+        match self {
+            Ending::Refused { number, why } => {
+                let sentence = SENTENCES.get(*number as usize).unwrap_or(&"no such number");
+                write!(out, "tmb: refused {number}: {sentence}")?;
+                why.iter().try_for_each(|why| write!(out, " ({why})"))
+            }
+            Ending::Wrong(message) => write!(out, "tmb: {message}"),
+        }
+    }
+}
+
+/// A file, by the name that is shown, that can't be read or written.
+pub fn wrong(shown: &str, error: &io::Error) -> Ending {
+    Ending::Wrong(format!("{shown}: {}", words(error)))
+}
+
+/// An error in words, without the system's number.
+pub fn words(error: &io::Error) -> String {
+    let text = error.to_string();
+    text.split(" (os error ").next().unwrap_or("").to_string()
+}
