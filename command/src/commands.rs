@@ -17,10 +17,10 @@ pub fn run(arguments: &[OsString]) -> Result<(), Ending> {
         return Err(Ending::Wrong(format!("no command\n{}", help::usage())));
     };
     match (name.to_str().unwrap_or(""), rest) {
-        ("help" | "--help" | "-h", []) => print(&help::overview()),
+        ("help" | "--help" | "-h", []) => print(help::overview()),
         ("--version", []) => print(concat!("tmb ", env!("CARGO_PKG_VERSION"), "\n")),
-        ("help", [about]) => print(help::page(about)?),
         (_, [asked]) if asked == "--help" || asked == "-h" => print(help::page(name)?),
+        ("help", [about]) => print(help::page(about)?),
         ("build", [job, plain, out]) => build(job, plain, out),
         ("check", [mesh]) => check(mesh),
         ("select", [mesh, out, numbers @ ..]) => select(mesh, out, numbers),
@@ -40,10 +40,11 @@ fn build(job: &OsStr, plain: &OsStr, out: &OsStr) -> Result<(), Ending> {
 }
 
 fn check(mesh: &OsStr) -> Result<(), Ending> {
-    print(&accepted(&files::read(mesh, LONGEST_MESH)?)?)
+    print(accepted(&files::read(mesh, LONGEST_MESH)?)?)
 }
 
-/// Refine is asked, with no room for a result: 20 is all that a good selection can be refused with.
+/// The numbers are written as they are given. Refine is asked about them, with no room for a result: 20
+/// is all that a good selection can be refused with.
 fn select(mesh: &OsStr, out: &OsStr, numbers: &[OsString]) -> Result<(), Ending> {
     if numbers.len() > usize::from(u16::MAX) {
         let most = "a selection has at most 65,535 numbers";
@@ -79,8 +80,7 @@ fn refine(mesh: &OsStr, selection: &OsStr, out: &OsStr) -> Result<(), Ending> {
 }
 
 fn list(mesh: &OsStr) -> Result<(), Ending> {
-    let lines = listing::lines(&files::read(mesh, LONGEST_MESH)?)?;
-    files::print(&lines).map_err(|error| wrong("standard output", &error))
+    print(listing::lines(&files::read(mesh, LONGEST_MESH)?)?)
 }
 
 /// A number other than 0 is a refusal.
@@ -121,8 +121,8 @@ fn deliver(out: &OsStr, bytes: &[u8], line: &str) -> Result<(), Ending> {
     })
 }
 
-fn print(text: &str) -> Result<(), Ending> {
-    files::print(text.as_bytes()).map_err(|error| wrong("standard output", &error))
+fn print(bytes: impl AsRef<[u8]>) -> Result<(), Ending> {
+    files::print(bytes.as_ref()).map_err(|error| wrong("standard output", &error))
 }
 
 /// A whole number given as an argument, in digits alone.

@@ -19,22 +19,21 @@ pub const PAGES: [Page; 6] = [
         line: "marks a plain mesh and stores it",
         text: "usage: tmb build JOB PLAIN OUT
 
-Marks a plain mesh and stores it as round 0 of the job.
+Marks a plain mesh and stores it as round 0 of the job. Prints what check says
+of it.
 
   JOB     the job's number, from 0 to 4294967295
-  PLAIN   the plain mesh, a text
+  PLAIN   the plain mesh, a text of at most 16 MiB
   OUT     the stored mesh that is written
 
 A plain mesh is a text of lines:
 
-  v x y z     a vertex by its three coordinates, multiples of 32 from -32736 to 32736;
-              vertices are numbered from 0 as they come
+  v x y z     a vertex by its three coordinates, multiples of 32 from -32736
+              to 32736; vertices are numbered from 0 as they come
   p a b c d   a piece by the numbers of its four corners
 
-Lines of both sorts may be mixed. What follows a # is a comment; empty lines are skipped. The
-text has at most 16 MiB.
-
-Prints what check says of the stored mesh.
+Lines of both sorts may be mixed. What follows a # is a comment; empty lines
+are skipped.
 ",
     },
     Page {
@@ -43,29 +42,31 @@ Prints what check says of the stored mesh.
         line: "judges a stored mesh",
         text: "usage: tmb check MESH
 
-Judges a stored mesh. Prints job, round, all vertices and all records, and check's three figures:
-the leaves, which are the pieces that are not cut, the greatest generation of a leaf (deepest) and
-the summed sixfold volume of the leaves (sixfold).
+Judges a stored mesh. Prints job, round, all vertices, all records and check's
+three figures: the leaves, which are the records that are not cut, the greatest
+generation of a leaf (deepest), and the summed sixfold volume of the leaves
+(sixfold).
 
-With refusal 10 the message names the record and the two vertices of the edge that hangs.
+With refusal 10 the message names the record and the two vertices of the edge
+that hangs.
 ",
     },
     Page {
         name: "select",
         usage: "tmb select MESH OUT NUMBER...",
-        line: "chooses pieces of a mesh, for its job and round",
+        line: "chooses pieces for the mesh's job and round",
         text: "usage: tmb select MESH OUT NUMBER...
 
-Writes a selection of the named records, with the mesh's own job and round. The numbers are those
-that tmb list shows, in rising order. Without a number the selection is empty: refine then raises
-the round and cuts nothing.
+Writes a selection with the mesh's own job and round. What refine would refuse
+is refused at once, and no selection is written.
 
   MESH     a stored mesh
   OUT      the selection that is written
-  NUMBER   the number of a record, from 0 to 65535
+  NUMBER   a leaf's number as tmb list shows it; the numbers rise
 
-What refine would refuse is refused at once, and no selection is written. The selection is good for
-this round of the mesh alone: it expires with the next refinement.
+Without a number the selection is empty: refine raises the round and cuts
+nothing. A selection is good for this round alone: it expires with the next
+refinement.
 ",
     },
     Page {
@@ -74,13 +75,12 @@ this round of the mesh alone: it expires with the next refinement.
         line: "cuts the chosen pieces and closes the mesh",
         text: "usage: tmb refine MESH SELECTION OUT
 
-Cuts the pieces that the selection names, and further ones until no edge hangs. The round rises by 1.
+Cuts the pieces that the selection names, and further ones until no edge hangs.
+The round rises by 1. Prints what check says of the refined mesh.
 
   MESH        a stored mesh
   SELECTION   a selection for its job and its round
   OUT         the refined mesh that is written; it may be MESH
-
-Prints what check says of the refined mesh.
 ",
     },
     Page {
@@ -89,8 +89,9 @@ Prints what check says of the refined mesh.
         line: "shows the pieces of a mesh",
         text: "usage: tmb list MESH
 
-Shows a heading with job, round, all vertices, all records and check's three figures, then each
-leaf: its number, its four corners, the two vertices of its refinement edge, its generation.
+Shows a heading with job, round, all vertices, all records and check's three
+figures, then each leaf: its number, its four corners, its refinement edge's
+lower and higher vertex, its generation.
 
 The lines are those of the proved program tmb-list, which stands beside tmb.
 ",
@@ -107,14 +108,15 @@ Shows the commands, or more about one of them.
 ];
 
 const ALWAYS: &str = "
-Files: - is standard input or standard output; only one input may be -. An output file is written
-whole or not at all, and may be one of the inputs. After a refusal the files stand as they were.
+Files: - is standard input or standard output; only one input may be -. An
+output file is written whole or not at all, and may be one of the inputs. After
+a refusal the files stand as they were.
 
-A refusal is one line on standard error: its number, what the number means, and in brackets what was
-found. The selection of an earlier round is refused: choose again.
+A refusal is one line on standard error: its number, what the number means, and
+in brackets what was found, where that is plain.
 
-Exit status: 0 accepted, 1 refused, 2 not carried out (wrong arguments, or a file that can't be read
-or written).
+Exit status: 0 accepted, 1 refused, 2 not carried out (wrong arguments, or a
+file that can't be read or written).
 ";
 
 /// The commands in a line each.

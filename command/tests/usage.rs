@@ -1,0 +1,203 @@
+//! Help, and commands that are not given as they have to be.
+
+mod common;
+use common::*;
+use std::ffi::OsStr;
+use std::os::unix::ffi::OsStrExt;
+use std::process::Output;
+
+const USAGE: &str = "usage:
+  tmb build JOB PLAIN OUT         marks a plain mesh and stores it
+  tmb check MESH                  judges a stored mesh
+  tmb select MESH OUT NUMBER...   chooses pieces for the mesh's job and round
+  tmb refine MESH SELECTION OUT   cuts the chosen pieces and closes the mesh
+  tmb list MESH                   shows the pieces of a mesh
+  tmb help [COMMAND]              shows this, or more about a command";
+
+/// Status 0, nothing on standard error, and what is printed.
+#[track_caller]
+fn printed(output: Output) -> String {
+    assert_eq!(output.stderr, b"");
+    assert_eq!(output.status.code(), Some(0));
+    String::from_utf8(output.stdout).unwrap()
+}
+
+/// The lines fit a terminal of 80 columns.
+fn fits(page: &str) -> bool {
+    page.lines()
+        .all(|line| line.len() <= 80 && line.trim_end() == line)
+}
+
+#[test]
+fn help() {
+    let desk = Desk::new("help");
+    let overview = printed(desk.run(&["help"]));
+    assert!(overview.contains(USAGE));
+    assert!(fits(&overview), "{overview}");
+    for words in [
+        "Exit status: 0 accepted, 1 refused, 2 not",
+        "whole or not at all",
+        "standard input",
+    ] {
+        assert!(overview.contains(words), "{words}");
+    }
+    for asked in ["--help", "-h"] {
+        assert_eq!(printed(desk.run(&[asked])), overview);
+    }
+    for (command, usage, words) in [
+        (
+            "build",
+            "usage: tmb build JOB PLAIN OUT\n",
+            "\n  v x y z     a vertex by its three coordinates",
+        ),
+        (
+            "build",
+            "usage: tmb build JOB PLAIN OUT\n",
+            "\n  p a b c d   a piece by the numbers of its four corners",
+        ),
+        (
+            "build",
+            "usage: tmb build JOB PLAIN OUT\n",
+            "What follows a # is a comment",
+        ),
+        (
+            "check",
+            "usage: tmb check MESH\n",
+            "names the record and the two vertices",
+        ),
+        (
+            "select",
+            "usage: tmb select MESH OUT NUMBER...\n",
+            "A selection is good for this round alone",
+        ),
+        (
+            "refine",
+            "usage: tmb refine MESH SELECTION OUT\n",
+            "The round rises by 1.",
+        ),
+        (
+            "list",
+            "usage: tmb list MESH\n",
+            "the proved program tmb-list, which stands beside tmb",
+        ),
+        ("help", "usage: tmb help [COMMAND]\n", "Shows the commands"),
+    ] {
+        let page = printed(desk.run(&["help", command]));
+        assert!(page.starts_with(usage), "{page}");
+        assert!(page.contains(words), "{page}");
+        assert_eq!(printed(desk.run(&[command, "--help"])), page);
+        assert_eq!(printed(desk.run(&[command, "-h"])), page);
+        assert!(fits(&page), "{page}");
+    }
+}
+
+#[test]
+fn the_version() {
+    let desk = Desk::new("version");
+    let version = concat!("tmb ", env!("CARGO_PKG_VERSION"));
+    says(&desk.run(&["--version"]), version);
+}
+
+#[test]
+fn wrong_commands() {
+    let desk = Desk::new("wrong-commands");
+    wrong(&desk.run::<&str>(&[]), &format!("no command\n{USAGE}"));
+    for arguments in [
+        &["show"][..],
+        &["show", "k"],
+        &["show", "--help"],
+        &["help", "show"],
+    ] {
+        wrong(
+            &desk.run(arguments),
+            &format!("no such command: show\n{USAGE}"),
+        );
+    }
+    wrong(&desk.run(&[""]), &format!("no such command: \n{USAGE}"));
+    wrong(
+        &desk.run(&["--version", "k"]),
+        &format!("no such command: --version\n{USAGE}"),
+    );
+    let name = OsStr::from_bytes(b"check\xFF");
+    wrong(
+        &desk.run(&[name]),
+        &format!("no such command: check\u{FFFD}\n{USAGE}"),
+    );
+    assert!(desk.files().is_empty());
+}
+
+#[test]
+fn wrong_counts_of_arguments() {
+    let desk = Desk::new("wrong-counts");
+    desk.write("k", &k());
+    for (usage, arguments) in [
+        ("build JOB PLAIN OUT", &["build"][..]),
+        ("build JOB PLAIN OUT", &["build", "7", "k"]),
+        ("build JOB PLAIN OUT", &["build", "7", "k", "out", "more"]),
+        ("check MESH", &["check"]),
+        ("check MESH", &["check", "k", "k"]),
+        ("select MESH OUT NUMBER...", &["select"]),
+        ("select MESH OUT NUMBER...", &["select", "k"]),
+        ("refine MESH SELECTION OUT", &["refine", "k", "k"]),
+        (
+            "refine MESH SELECTION OUT",
+            &["refine", "k", "k", "out", "more"],
+        ),
+        ("list MESH", &["list"]),
+        ("list MESH", &["list", "k", "k"]),
+        ("help [COMMAND]", &["help", "build", "check"]),
+    ] {
+        wrong(&desk.run(arguments), &format!("usage: tmb {usage}"));
+    }
+    assert_eq!(desk.files().len(), 1);
+}
+
+#[test]
+fn wrong_numbers() {
+    let desk = Desk::new("wrong-numbers");
+    desk.write("k", &k());
+    desk.write("text", K_TEXT.as_bytes());
+    for job in ["-1", "+7", "4294967296", "seven", "", "7.0", " 7", "0x7"] {
+        wrong(
+            &desk.run(&["build", job, "text", "out"]),
+            &format!("{job}: not a whole number from 0 to 4294967295"),
+        );
+    }
+    for number in ["-1", "+0", "65536", "one", ""] {
+        wrong(
+            &desk.run(&["select", "k", "out", "0", number]),
+            &format!("{number}: not a whole number from 0 to 65535"),
+        );
+    }
+    let number = OsStr::from_bytes(b"\xFF");
+    let arguments = [
+        OsStr::new("select"),
+        OsStr::new("k"),
+        OsStr::new("out"),
+        number,
+    ];
+    wrong(
+        &desk.run(&arguments),
+        "\u{FFFD}: not a whole number from 0 to 65535",
+    );
+    // As many numbers as a selection can count, and one more.
+    let mut arguments = vec!["select", "k", "out"];
+    arguments.resize(3 + 65_535, "0");
+    refuses(&desk.run(&arguments), 15, "0 stands after 0");
+    arguments.push("0");
+    wrong(
+        &desk.run(&arguments),
+        "a selection has at most 65,535 numbers",
+    );
+    assert_eq!(desk.files().len(), 2);
+}
+
+#[test]
+fn only_one_input_is_standard() {
+    let desk = Desk::new("one-standard");
+    wrong(
+        &desk.run(&["refine", "-", "-", "out"]),
+        "only one input may be -",
+    );
+    assert!(desk.files().is_empty());
+}
