@@ -6,7 +6,7 @@ use std::fs::{self, File, OpenOptions};
 use std::io::Write;
 use std::os::unix::fs::{symlink, FileTypeExt, MetadataExt, PermissionsExt};
 use std::path::{Path, PathBuf};
-use std::process::{Command, Output, Stdio};
+use std::process::Command;
 
 /// A desk with K, a selection for it and an old output.
 fn with_k(name: &str) -> Desk {
@@ -166,59 +166,6 @@ fn outputs_that_cannot_be_written() {
     }
 }
 
-/// Standard output that nobody reads, that is full, or that can't be written: words, and status 2.
-#[test]
-fn standard_output_that_cannot_be_written() {
-    let desk = Desk::with_list("no-standard-output", &list_program());
-    desk.write("k", &k());
-    desk.write("choice", &chosen(&k(), &[0]));
-    let closed = || {
-        let mut reader = Command::new("true").stdin(Stdio::piped()).spawn().unwrap();
-        let pipe = reader.stdin.take().unwrap();
-        reader.wait().unwrap();
-        Stdio::from(pipe)
-    };
-    let full = || Stdio::from(OpenOptions::new().write(true).open("/dev/full").unwrap());
-    let unwritable = || Stdio::from(File::open("/dev/null").unwrap());
-    let ways: [(&dyn Fn() -> Stdio, &str); 3] = [
-        (&closed, "Broken pipe"),
-        (&full, "No space left on device"),
-        (&unwritable, "Bad file descriptor"),
-    ];
-    for (stdout, words) in ways {
-        let run = |arguments: &[&str]| -> Output {
-            let mut command = desk.command(arguments);
-            command
-                .stdin(Stdio::null())
-                .stdout(stdout())
-                .stderr(Stdio::piped());
-            command.spawn().unwrap().wait_with_output().unwrap()
-        };
-        let message = format!("standard output: {words}");
-        for arguments in [
-            &["check", "k"][..],
-            &["list", "k"],
-            &["help"],
-            &["help", "build"],
-            &["--version"],
-            &["select", "k", "-", "0"],
-            &["refine", "k", "choice", "-"],
-        ] {
-            wrong(&run(arguments), &message);
-        }
-        wrong(
-            &run(&["refine", "k", "choice", "new"]),
-            &format!("{message} (new is written)"),
-        );
-        assert_eq!(desk.read("new"), k1());
-        wrong(
-            &run(&["select", "k", "new", "0"]),
-            &format!("{message} (new is written)"),
-        );
-        assert_eq!(desk.read("new"), chosen(&k(), &[0]));
-    }
-}
-
 #[test]
 fn permission_bits_are_kept() {
     let desk = with_k("bits");
@@ -239,29 +186,32 @@ fn permission_bits_are_kept() {
     assert_eq!(mode("new"), mode("other"));
 }
 
-/// Whoever may write everything is made somebody who may not, by a name space of its own.
+/// Whoever may write everything is made somebody who may not, by a name space of its own; where none can
+/// be had, the file may be written, and is.
 #[test]
 fn an_output_that_may_not_be_written_is_not_replaced() {
     let desk = with_k("protected");
     let old = desk.folder.join("old");
     fs::set_permissions(&old, fs::Permissions::from_mode(0o444)).unwrap();
     let before = desk.files();
-    let arguments = ["refine", "k", "choice", "old"];
-    let output = if OpenOptions::new().write(true).open(&old).is_err() {
-        desk.run(&arguments)
-    } else {
-        let mut command = Command::new("unshare");
-        command.arg("--user").arg(&desk.program).args(arguments);
-        command.current_dir(&desk.folder).output().unwrap()
-    };
-    if String::from_utf8_lossy(&output.stderr).starts_with("unshare: ") {
-        // Nobody else can be made here: then it may be written, and is.
-        says(&desk.run(&arguments), K1_LINE);
-        assert_eq!(desk.read("old"), k1());
-    } else {
-        wrong(&output, "old: Permission denied");
-        assert!(desk.files() == before);
+    let mut command = desk.command(&["refine", "k", "choice", "old"]);
+    if OpenOptions::new().write(true).open(&old).is_ok() {
+        let mut apart = Command::new("unshare");
+        apart.arg("--user").arg(command.get_program());
+        apart.args(command.get_args()).current_dir(&desk.folder);
+        if Command::new("unshare")
+            .args(["--user", "true"])
+            .status()
+            .is_ok_and(|status| status.success())
+        {
+            command = apart;
+        } else {
+            says(&command.output().unwrap(), K1_LINE);
+            return assert_eq!(desk.read("old"), k1());
+        }
     }
+    wrong(&command.output().unwrap(), "old: Permission denied");
+    assert!(desk.files() == before);
 }
 
 /// A symbolic link is followed, and stays; also one to a file that is not there yet.
