@@ -28,7 +28,8 @@ use Rattle.list_text.specs.Text.{word, lineFeed, decimal, figures}
 use Rattle.list_text.specs.Line.{line, put}
 use Rattle.list_text.specs.Decimal.{decimal-length}
 use Rattle.list_text.specs.Laws.{put-whole}
-use Rattle.list_lines.specs.Lines.{lineRoom, refusedLine, countFigures, checkFigures, headingLine, cornerFigures, edgeFigures, leafLine, leafLines, meshLines, judgedLines, linesOf}
+use Rattle.list_lines.specs.Lines.{lineRoom, refusedLine, countFigures, checkFigures, headingLine, cornerFigures, edgeFigures, leafLine}
+use Rattle.list_meaning.specs.Listing.{leafLines, meshLines, judgedLines, linesOf}
 
 -- ---- how long figures are
 
