@@ -1,0 +1,30 @@
+/*
+ * A round on K with what an installation has: build, refine, check, and the used selection again.
+ */
+#include <tmb.h>
+
+#include <stdio.h>
+
+/* K: its places, and its one piece. */
+static const int16_t places[12] = {0, 0, 0, 64, 0, 0, 64, 64, 0, 64, 64, 64};
+static const uint16_t piece[4] = {0, 1, 2, 3};
+
+/* Record 0, selected for job 7 and round 0. */
+static const uint8_t selected[15] = {'T', 'M', 'S', 1, 0, 7, 0, 0, 0, 0, 0, 1, 0, 0, 0};
+
+static uint8_t built[77], refined[121], again[62484];
+
+int main(void)
+{
+    struct tmb_report report;
+
+    printf("build %u\n", (unsigned)tmb_build(7, places, 12, piece, 4, built, sizeof built));
+    printf("refine %u\n", (unsigned)tmb_refine(built, sizeof built, selected, sizeof selected,
+                                               refined, sizeof refined));
+    report = tmb_check(refined, sizeof refined);
+    printf("check %u leaves %u deepest %u sixfold %u\n", (unsigned)report.number,
+           (unsigned)report.leaves, (unsigned)report.deepest, (unsigned)report.sixfold);
+    printf("refine %u\n", (unsigned)tmb_refine(refined, sizeof refined, selected, sizeof selected,
+                                               again, sizeof again));
+    return 0;
+}
