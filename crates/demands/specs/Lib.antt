@@ -3,3 +3,11 @@ pub mod BaseMesh
 pub mod Stored
 pub mod StoredMesh
 pub mod Link
+pub mod Lawful
+pub mod BaseOf
+pub mod Marked
+pub mod Numbered
+pub mod SetOf
+pub mod StoredOf
+pub mod Holds
+pub mod HoldsGrown

@@ -1,5 +1,4 @@
 -- The tables that a mesh's bytes hold, as the mathematics of sets of cuts has them: functions of the numbers, without places.
-use Prim.Native.Nat.{ℕ}
 use Rattle.piece.specs.Shape.{shapeOf}
 use Rattle.piece.specs.Ends.{cornerAt}
 use Rattle.check_refusals.specs.Tables as Check

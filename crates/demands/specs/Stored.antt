@@ -1,9 +1,9 @@
 -- What it is that a byte string stores: a set of cuts of a base mesh, its vertices and pieces numbered. Document 01, "Vertices and the grid",
 -- "Stored mesh, version 1".
 use mathlib.Core.Path.{_≡_}
-use mathlib.Core.Bool.{Bool, true, false, cond}
+use mathlib.Core.Bool.{true, false, cond}
 use mathlib.Core.List.{List, [], _∷_}
-use Prim.Native.Nat.{ℕ, suc, _+_, _*_, _≤_, _<_}
+use Prim.Native.Nat.{ℕ, _+_, _*_, _≤_, _<_}
 use lib.ListN.{length}
 use lib.Dec.{ltb}
 use Rattle.laws.specs.Below.{listBelow}
