@@ -1,7 +1,7 @@
 -- Names of vertices: a base vertex by its number, a made vertex by the names of its two parents, whichever way round they are given.
 use mathlib.Core.Path.{_≡_, refl, sym, ap, ap₂, _∙_, subst}
 use mathlib.Core.Bool.{Bool, true, false, cond, false≢true}
-use mathlib.Core.Logic.{inl, inr, ⊎-elim, _≢_}
+use mathlib.Core.Logic.{_⊎_, inl, inr, ⊎-elim, _≢_}
 use Prim.Native.Nat.{ℕ, suc, max}
 use native.Mathlib.Omega.{arith}
 use native.Mathlib.Nat.{max-comm}
@@ -115,6 +115,16 @@ inOrder after a b = made b a
 -- The vertex halfway between two vertices: its parents, put in order.
 pub mid : Name → Name → Name
 mid a b = inOrder (order a b) a b
+
+-- It has one of the two for its first parent, and the other for its second.
+pub mid-which : (a b : Name) → (mid a b ≡ made a b) ⊎ (mid a b ≡ made b a)
+unfolding mid inOrder
+mid-which a b = go (order a b)
+  where
+    go : (w : Way) → (inOrder w a b ≡ made a b) ⊎ (inOrder w a b ≡ made b a)
+    go before = inl refl
+    go same = inl refl
+    go after = inr refl
 
 -- It does not matter which of the two is given first.
 pub mid-sym : (a b : Name) → mid a b ≡ mid b a

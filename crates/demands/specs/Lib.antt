@@ -2,6 +2,7 @@
 pub mod BaseMesh
 pub mod Stored
 pub mod StoredMesh
+pub mod Figures
 pub mod Link
 pub mod Lawful
 pub mod BaseOf
