@@ -12,3 +12,9 @@ pub mod SetOf
 pub mod StoredOf
 pub mod Holds
 pub mod HoldsGrown
+pub mod MarkedBase
+pub mod Counts
+pub mod Read
+pub mod HeldEntries
+pub mod HeldCuts
+pub mod AcceptedOf
