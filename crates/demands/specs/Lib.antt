@@ -18,3 +18,7 @@ pub mod Read
 pub mod HeldEntries
 pub mod HeldCuts
 pub mod AcceptedOf
+pub mod CutAppends
+pub mod Hanging
+pub mod PassStages
+pub mod Closing
