@@ -3,6 +3,7 @@ pub mod BaseMesh
 pub mod Stored
 pub mod StoredMesh
 pub mod Figures
+pub mod Further
 pub mod Link
 pub mod Lawful
 pub mod BaseOf
@@ -12,6 +13,9 @@ pub mod SetOf
 pub mod StoredOf
 pub mod Holds
 pub mod HoldsGrown
+pub mod FiguresOf
+pub mod OneSet
+pub mod Exact
 pub mod MarkedBase
 pub mod Counts
 pub mod Read
@@ -22,3 +26,6 @@ pub mod CutAppends
 pub mod Hanging
 pub mod PassStages
 pub mod Closing
+pub mod FromStored
+pub mod StoredFigures
+pub mod Demand2

@@ -1,0 +1,119 @@
+-- From a stored set and a good selection to what the passes make of it. Assumes nothing.
+use mathlib.Core.Path.{_≡_, refl, sym, ap, subst, _∙_}
+use mathlib.Core.Bool.{Bool, true, false, not}
+use mathlib.Core.Logic.{_≢_}
+use mathlib.Core.List.{List}
+use Prim.Native.Nat.{ℕ, _≤_, _<_}
+use native.Mathlib.Omega.{arith}
+use lib.Dec.{eqb}
+use lib.ListN.{length}
+use borrow.Author.Tests.{eqb-true, eq-eqb}
+use Rattle.laws.specs.Below.{any-where, any-is}
+use Rattle.stored.specs.declared.Record.{Record}
+use Rattle.stored.specs.Layout.{none, limits, namedIn}
+use Rattle.check_refusals.specs.Tables as Check
+use Rattle.check_refusals.specs.Tables.{tablesOf, allRecords, pieceAt, isCut}
+use Rattle.check_meaning.specs.Accepted.{Accepted}
+use Rattle.check_meaning.specs.Cuts.{stored-four}
+use Rattle.refine_selection.specs.Selected.{isNamed}
+use Rattle.refine_pass.specs.Passes.{refined}
+use Rattle.cuts_names.specs.Pieces.{Node, generation}
+use Rattle.cuts.specs.Tables.{Lawful, nodeOf}
+use Rattle.cuts.specs.LinkGrown.{Grown}
+use Rattle.demands.specs.BaseMesh.{named}
+use Rattle.demands.specs.Stored.{Numbers}
+use Rattle.demands.specs.StoredMesh.{StoredMesh}
+use Rattle.demands.specs.Further.{GoodSelection, Selected, count}
+use Rattle.demands.specs.Link.{link}
+use Rattle.demands.specs.Lawful.{accepted-lawful}
+use Rattle.demands.specs.Holds.{Holds}
+use Rattle.demands.specs.HoldsGrown.{node-is, grown}
+use Rattle.demands.specs.MarkedBase.{properly-marked}
+use Rattle.demands.specs.Counts.{records-within}
+use Rattle.demands.specs.Read.{written-holds}
+use Rattle.demands.specs.AcceptedOf.{accepted-of-stored}
+use Rattle.demands.specs.PassStages as Stages
+use Rattle.demands.specs.PassStages.{Start, UpTo15, Selectable}
+use Rattle.demands.specs.Closing.{Outcome, outcome}
+
+module _ (s : List ℕ) (x : StoredMesh s) where
+  abbrev pub m : Check.Tables
+  m = tablesOf s
+
+  abbrev pub N : Numbers
+  N = x .stores .numbers
+
+  pub accepted : Accepted s
+  accepted = accepted-of-stored s x
+
+  -- The bytes' tables hold the numbered set.
+  pub holds : Holds m (x .base) N
+  holds =
+      let y = x .stores in
+      subst (λ (t : List ℕ). Holds (tablesOf t) (x .base) N) (sym (y .bytes))
+      (written-holds (x .job) (x .round) (x .base) (x .cuts) (x .right) N (y .vertices-numbered) (y .records-numbered) (y .job-fits) (y .round-fits))
+
+  pub lawful : Lawful (link m)
+  lawful = accepted-lawful m (accepted .mesh) (stored-four s)
+
+  pub few : N .records ≤ none
+  few = omega (arith, records-within limits (x .base) (x .cuts) (x .right .fits) N (x .stores .records-numbered))
+
+  pub marks-four : (r : ℕ) → r < x .base .pieces → length (x .base .shapeAt r .marks) ≡ 4
+  marks-four r h = x .right .marked .pieces r h .marked .four
+
+  pub stored-grown : Grown (named (x .base)) (link m) (x .cuts)
+  stored-grown = grown m (x .base) (x .cuts) N holds (x .stores .vertices-numbered) (x .stores .records-numbered) marks-four few lawful
+
+  pub stored-node : (r : ℕ) → r < N .records → nodeOf (link m) r ≡ N .nodeAt r
+  stored-node = node-is m (x .base) (x .cuts) N holds (x .stores .vertices-numbered) (x .stores .records-numbered) marks-four few lawful
+
+  -- What the passes start from.
+  pub start : Start m
+  start = record { count = x .base .pieces; base = named (x .base); set = x .cuts; marked = properly-marked (x .base) (x .right .marked); grown = stored-grown }
+
+  pub up-to-15 : UpTo15 m
+  up-to-15 = accepted .mesh .cuts .generations
+
+  module _ (selection : List ℕ) (good : GoodSelection (x .job) (x .round) (x .base) (x .cuts) N selection) where
+    abbrev pub chosen : ℕ → Bool
+    chosen = isNamed (count selection) (namedIn selection)
+
+    which : (n : ℕ) → chosen n ≡ true → (i : ℕ) × (i < count selection) × (namedIn selection i ≡ n)
+    unfolding isNamed
+    which n e = let (i, l, q) = any-where (λ i. eqb (namedIn selection i) n) (count selection) e in (i, l, eqb-true (namedIn selection i) n q)
+
+    named-chosen : (i : ℕ) → i < count selection → chosen (namedIn selection i) ≡ true
+    unfolding isNamed
+    named-chosen i l = any-is (λ j. eqb (namedIn selection j) (namedIn selection i)) (count selection) i l (eq-eqb (namedIn selection i) (namedIn selection i) refl)
+
+    named-leaf : (i : ℕ) → i < count selection → (namedIn selection i < allRecords m) × (isCut m (namedIn selection i) ≡ false) × (pieceAt m (namedIn selection i) .generation < 15)
+    named-leaf i l =
+        let n = namedIn selection i in
+        let there = good .there i l in
+        let is = holds .recordAt n there in
+        let first : m .recordAt n .«first_child» ≡ none = ap (λ (r : Record). r .«first_child») is ∙ x .stores .records-numbered .uncut n there (good .uncut i l) in
+        let own : pieceAt m n .generation ≡ generation (N .nodeAt n) = ap (λ (r : Record). r .piece .generation) is in
+        let deep = x .right .shallow (N .nodeAt n) (x .stores .records-numbered .there n there) in
+        let apart : generation (N .nodeAt n) ≢ 15 = good .not-last i l in
+        let young : generation (N .nodeAt n) < 15 = omega arith in
+        (omega (arith, there, holds .records), ap (λ (f : ℕ). not (eqb f none)) first, omega arith)
+
+    pub selectable : Selectable m chosen
+    selectable n e =
+        let (i, l, q) = which n e in
+        subst (λ (k : ℕ). (k < allRecords m) × (isCut m k ≡ false) × (pieceAt m k .generation < 15)) q (named-leaf i l)
+
+    -- The nodes of the chosen records are the selected pieces.
+    pub chosen-selected : (n : Node) → Stages.Selected m chosen n → Selected N selection n
+    chosen-selected n (k, c, q) =
+        let (i, l, e) = which k c in
+        let there : k < N .records = subst (λ (j : ℕ). j < N .records) e (good .there i l) in
+        (i, l, ap (N .nodeAt) e ∙ sym (stored-node k there) ∙ q)
+
+    pub selected-chosen : (n : Node) → Selected N selection n → Stages.Selected m chosen n
+    selected-chosen n (i, l, q) = (namedIn selection i, named-chosen i l, stored-node (namedIn selection i) (good .there i l) ∙ q)
+
+    -- What the passes make of it.
+    pub made : Outcome limits m start chosen (refined limits chosen m)
+    made = outcome limits (omega arith) m start (stored-four s) up-to-15 chosen selectable
