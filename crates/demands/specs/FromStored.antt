@@ -69,7 +69,7 @@ module _ (s : List ℕ) (x : StoredMesh s) where
   stored-node = node-is m (x .base) (x .cuts) N holds (x .stores .vertices-numbered) (x .stores .records-numbered) marks-four few lawful
 
   -- What the passes start from.
-  pub start : Start m
+  abbrev pub start : Start m
   start = record { count = x .base .pieces; base = named (x .base); set = x .cuts; marked = properly-marked (x .base) (x .right .marked); grown = stored-grown }
 
   pub up-to-15 : UpTo15 m

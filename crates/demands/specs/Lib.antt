@@ -27,5 +27,6 @@ pub mod Hanging
 pub mod PassStages
 pub mod Closing
 pub mod FromStored
+pub mod Inside
 pub mod StoredFigures
 pub mod Demand2
