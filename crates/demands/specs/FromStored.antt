@@ -9,6 +9,7 @@ use lib.Dec.{eqb}
 use lib.ListN.{length}
 use borrow.Author.Tests.{eqb-true, eq-eqb}
 use Rattle.laws.specs.Below.{any-where, any-is}
+use Rattle.stored.specs.declared.Header.{Header}
 use Rattle.stored.specs.declared.Record.{Record}
 use Rattle.stored.specs.Layout.{none, limits, namedIn}
 use Rattle.check_refusals.specs.Tables as Check
@@ -21,16 +22,17 @@ use Rattle.cuts_names.specs.Pieces.{Node, generation}
 use Rattle.cuts.specs.Tables.{Lawful, nodeOf}
 use Rattle.cuts.specs.LinkGrown.{Grown}
 use Rattle.demands.specs.BaseMesh.{named}
-use Rattle.demands.specs.Stored.{Numbers}
+use Rattle.demands.specs.Stored.{Numbers, headerFor}
 use Rattle.demands.specs.StoredMesh.{StoredMesh}
 use Rattle.demands.specs.Further.{GoodSelection, Selected, count}
+use Rattle.demands.specs.Selections.{EarnsNone}
 use Rattle.demands.specs.Link.{link}
 use Rattle.demands.specs.Lawful.{accepted-lawful}
 use Rattle.demands.specs.Holds.{Holds}
 use Rattle.demands.specs.HoldsGrown.{node-is, grown}
 use Rattle.demands.specs.MarkedBase.{properly-marked}
 use Rattle.demands.specs.Counts.{records-within}
-use Rattle.demands.specs.Read.{written-holds}
+use Rattle.demands.specs.Read.{written-holds, header-read}
 use Rattle.demands.specs.AcceptedOf.{accepted-of-stored}
 use Rattle.demands.specs.PassStages as Stages
 use Rattle.demands.specs.PassStages.{Start, UpTo15, Selectable}
@@ -52,6 +54,19 @@ module _ (s : List ℕ) (x : StoredMesh s) where
       let y = x .stores in
       subst (λ (t : List ℕ). Holds (tablesOf t) (x .base) N) (sym (y .bytes))
       (written-holds (x .job) (x .round) (x .base) (x .cuts) (x .right) N (y .vertices-numbered) (y .records-numbered) (y .job-fits) (y .round-fits))
+
+  -- Their header has the job and the round.
+  heading : m .header ≡ headerFor (x .job) (x .round) (x .base) N
+  heading =
+      let y = x .stores in
+      ap (λ (t : List ℕ). tablesOf t .header) (y .bytes)
+      ∙ header-read (x .job) (x .round) (x .base) (x .cuts) (x .right) N (y .vertices-numbered) (y .records-numbered) (y .job-fits) (y .round-fits)
+
+  pub stored-job : m .header .job ≡ x .job
+  stored-job = ap (λ (h : Header). h .job) heading
+
+  pub stored-round : m .header .round ≡ x .round
+  stored-round = ap (λ (h : Header). h .round) heading
 
   pub lawful : Lawful (link m)
   lawful = accepted-lawful m (accepted .mesh) (stored-four s)
@@ -117,3 +132,17 @@ module _ (s : List ℕ) (x : StoredMesh s) where
     -- What the passes make of it.
     pub made : Outcome limits m start chosen (refined limits chosen m)
     made = outcome limits (omega arith) m start (stored-four s) up-to-15 chosen selectable
+
+    -- The selection earns none of 11 to 18 from the mesh.
+    pub earns-none : EarnsNone m selection
+    earns-none =
+        record {
+          length = good .length;
+          mark = good .mark;
+          job = good .same-job ∙ sym stored-job;
+          round = good .same-round ∙ sym stored-round;
+          numbers = record { rising = good .rising; there = λ i l. named-leaf i l .0 };
+          leaves = λ i l. ap (λ (r : Record). r .«first_child») (holds .recordAt (namedIn selection i) (good .there i l)) ∙ x .stores .records-numbered .uncut (namedIn selection i) (good .there i l) (good .uncut i l);
+          not-last = λ i l. let young = named-leaf i l .2 in λ e. omega (arith, young, e);
+          round-rises = λ e. good .not-last-round (sym stored-round ∙ e);
+        }

@@ -7,7 +7,7 @@ use mathlib.Core.List.{List, _++_}
 use Prim.Native.Nat.{ℕ, suc, _+_, _-_, _*_, _≤_, _<_}
 use lib.ListN.{length, replicate}
 use Rattle.piece.specs.Shape.{lastGeneration}
-use Rattle.stored.specs.Layout.{limits, lastRound, byteAt, u16At, selectionOf, namedIn}
+use Rattle.stored.specs.Layout.{limits, lastRound, selectionOf, namedIn}
 use Rattle.cuts_names.specs.Base.{SameFace, markedAt}
 use Rattle.cuts_names.specs.Pieces.{Node, generation, pieceAt}
 use Rattle.cuts.specs.Sets.{Cuts, Leaf, Within, NoneHangs}
@@ -15,6 +15,7 @@ use Rattle.cuts.specs.Count.{CutList, LeafList}
 use Rattle.demands.specs.BaseMesh.{BaseMesh, named}
 use Rattle.demands.specs.Stored.{Fits, Numbers, Stores}
 use Rattle.demands.specs.StoredMesh.{RightSet}
+use Rattle.demands.specs.Selections.{RightSelectionLength, RightSelectionMark}
 use Rattle.demands.specs.Figures.{sixfoldAt, sumOf}
 
 -- How many numbers a selection has, the i-th of them, and the node of the record with that number.
@@ -27,13 +28,9 @@ nodeNamed N selection i = N .nodeAt (namedIn selection i)
 -- A selection "that earns none of refusals 11 to 18", of a set C that is stored with this job, this round and these numbers.
 pub record GoodSelection (job round : ℕ) (b : BaseMesh) (C : Cuts (b .pieces)) (N : Numbers) (selection : List ℕ) : Type 0 where
   -- not 11: "selection under 13 bytes, or length not 13 + 2n"
-  pub long : 13 ≤ length selection
-  pub exact : length selection ≡ 13 + 2 * count selection
+  pub length : RightSelectionLength selection
   -- not 12: "selection's mark or version wrong"
-  pub T : byteAt selection 0 ≡ 84
-  pub M : byteAt selection 1 ≡ 77
-  pub S : byteAt selection 2 ≡ 83
-  pub version : u16At selection 3 ≡ 1
+  pub mark : RightSelectionMark selection
   -- not 13: "another job"
   pub same-job : selectionOf selection .job ≡ job
   -- not 14: "another round"

@@ -3,7 +3,9 @@ pub mod BaseMesh
 pub mod Stored
 pub mod StoredMesh
 pub mod Figures
+pub mod Selections
 pub mod Further
+pub mod RefineNumbers
 pub mod Link
 pub mod Lawful
 pub mod BaseOf

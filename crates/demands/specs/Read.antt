@@ -167,7 +167,7 @@ module _ (job round : ℕ) (b : BaseMesh) (C : Cuts (b .pieces)) (right : RightS
       }
 
   -- The header that is read is the one that was written.
-  header-read : tablesOf (meshBytes (written job round b N)) .header ≡ headerFor job round b N
+  pub header-read : tablesOf (meshBytes (written job round b N)) .header ≡ headerFor job round b N
   unfolding tablesOf
   header-read = mesh-header (written job round b N) written-counted
 
