@@ -1,6 +1,6 @@
 -- The first row of "A piece worked by hand", as one claim.
 use mathlib.Core.Path.{_≡_, refl, ap, _∙_}
-use mathlib.Core.Bool.{true}
+use mathlib.Core.Bool.{Bool, true}
 use mathlib.Core.List.{[], _∷_}
 use Prim.Native.Nat.{ℕ, _≤_}
 use native.Mathlib.Omega.{arith}
@@ -23,7 +23,7 @@ use Rattle.check_refusals.specs.Refusals.{wrongCounts, badVertices, badVertex, 
 use Rattle.check_refusals.specs.Check.{firstBroken}
 use Rattle.check_meaning.specs.Tests.{below, all-pass}
 use Rattle.build_marks.specs.Marking.{placeFor, plainPlace, plainVertex, plainPiece, rankOf, outranked, firstRanked, markedPiece, plainRecord}
-use Rattle.build_service.specs.Build.{notWhole, plainHeader, plainMesh, plainBytes, buildRows, buildNumber}
+use Rattle.build_service.specs.Build.{notWhole, plainHeader, plainMesh, plainBytes, buildRows, buildNumber, buildBytes}
 use Rattle.build_marks.specs.Rows.{K-coordinates, K-corners, K-marked}
 use Rattle.build_meaning.specs.Written.{Given, plain-length}
 
@@ -54,9 +54,14 @@ K-typed : typeA (shapeOf (record { corners = 0 ∷ 1 ∷ 2 ∷ 3 ∷ []; edge = 
 unfolding typeA otherMarksAre slotA slotB slotC slotD edgeCD lowSlot highSlot hasSlot joins edgeBetween onFace opposite oppositeOn firstBelow
 K-typed = refl
 
+-- What build's answers compute with, named in one place: to unfold this is to unfold them all.
+unfoldable pub computed : Bool
+unfolding buildNumber buildRows firstBroken notWhole wrongCounts badVertices badVertex badBaseVertex placeTwice badBaseRecords badBaseRecord badPiece equalCorners cornerNotInBase badBaseFaces badFaces badWith unusedVertices unusedVertex hasCorner sixfoldAt sixfoldOf differencesOf differenceOf determinantOf minorOf onGrid coordinateOnGrid coordinate samePlace anyBelow foldBelow tablesOf plainBytes plainMesh plainHeader plainVertex plainPlace plainRecord markedPiece plainPiece firstRanked outranked rankOf endsOf lowerEnd higherEnd lowSlot highSlot hasSlot onFace firstBelow squaredLength ranksBefore meshBytes headerBytes markBytes headerOf heldIn orNone storedOrNone vertexIn vertexFrom vertexBytes recordIn recordFrom recordBytes listBelow joined number numberBytes buildBytes
+computed = true
+
 -- None of build's rules is broken, computed from the bytes.
 K-accepted : (room : ℕ) → 77 ≤ room → buildNumber 7 K-coordinates K-corners room ≡ 0
-unfolding buildNumber buildRows firstBroken notWhole wrongCounts badVertices badVertex badBaseVertex placeTwice badBaseRecords badBaseRecord badPiece equalCorners cornerNotInBase badBaseFaces badFaces badWith unusedVertices unusedVertex hasCorner sixfoldAt sixfoldOf differencesOf differenceOf determinantOf minorOf onGrid coordinateOnGrid coordinate samePlace anyBelow foldBelow tablesOf plainBytes plainMesh plainHeader plainVertex plainPlace plainRecord markedPiece plainPiece firstRanked outranked rankOf endsOf lowerEnd higherEnd lowSlot highSlot hasSlot onFace firstBelow squaredLength ranksBefore meshBytes headerBytes markBytes headerOf heldIn orNone storedOrNone vertexIn vertexFrom vertexBytes recordIn recordFrom recordBytes listBelow joined number numberBytes
+unfolding computed
 K-accepted room h = rw (le-ltb room 77 h)
 
 -- The row holds.

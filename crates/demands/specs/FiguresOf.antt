@@ -3,14 +3,13 @@ use mathlib.Core.Path.{_≡_, refl, sym, ap, ap₂, _∙_, subst, fun-ext}
 use mathlib.Core.Bool.{Bool, true, false, not, cond, false≢true}
 use mathlib.Core.Logic.{_⊎_, inl, inr, ⊎-elim}
 use mathlib.Core.List.{List, [], _∷_}
-use Prim.Native.Nat.{ℕ, zero, suc, _+_, _/_, _≤_, _<_, max}
+use Prim.Native.Nat.{ℕ, zero, suc, _+_, _≤_, _<_, max}
 use native.Mathlib.Nat.{le-antisymm}
 use native.Mathlib.Omega.{arith}
 use lib.IntN.{natAbs}
 use lib.ListN.{length}
 use borrow.Author.Tests.{not-true, not-false}
 use Rattle.laws.specs.Below.{either, or-second, sumBelow, sum-same, sum-none, sum-suc, countBelow, count-none, count-suc, greatestBelow, greatest-none, greatest-suc}
-use Rattle.grid.specs.declared.Place.{Place}
 use Rattle.grid.specs.Places.{Point, pointOf, halfwayOf}
 use Rattle.grid.specs.GridTheorems.{halfway-exactly, halfway-only}
 use Rattle.grid_volume.specs.Volume.{determinantOf, differenceOf, differencesOf, sixfoldOf}
@@ -21,7 +20,6 @@ use Rattle.check_refusals.specs.Tables.{allRecords, pieceAt, isLeaf}
 use Rattle.check_refusals.specs.Check.{leaves, leafGeneration, deepest, leafSixfold, sixfold}
 use Rattle.cuts_names.specs.Lists.{both-ways, not-so, among, Distinct, without, among-head, among-tail, without-keeps, without-within, without-gone, without-distinct, no-longer}
 use Rattle.cuts_names.specs.Names as Names
-use Rattle.cuts_names.specs.Names.{Name, mid, mid-which}
 use Rattle.cuts_names.specs.Pieces as Pieces
 use Rattle.cuts_names.specs.Pieces.{Node, generation}
 use Rattle.cuts.specs.Sets.{Cuts, Leaf}
@@ -39,6 +37,7 @@ use Rattle.demands.specs.Stored.{Numbers, VerticesNumbered, RecordsNumbe
 use Rattle.demands.specs.Figures.{placeOf, sixfoldAt, sumOf, Figures}
 use Rattle.demands.specs.Link.{link}
 use Rattle.demands.specs.Holds.{Holds}
+use Rattle.demands.specs.Exact.{place-mid}
 use Rattle.demands.specs.HoldsGrown.{name-is, represents, grown}
 
 -- ---- lists with the same elements
@@ -154,22 +153,10 @@ module _ (P : ℕ → Bool) (f : ℕ → ℕ) where
 
 -- ---- places
 
-halves-swap : (p q : ℕ) → (p + q) / 2 ≡ (q + p) / 2
-halves-swap p q = omega arith
-
--- Halfway is the same from both ends.
-halfway-swaps : (p q : Place) → halfwayOf p q ≡ halfwayOf q p
-unfolding halfwayOf
-halfway-swaps p q = λ i. record { x = halves-swap (p .x) (q .x) i; y = halves-swap (p .y) (q .y) i; z = halves-swap (p .z) (q .z) i }
-
--- A base vertex stands at its place, a midpoint halfway, whichever of the two ends is named first.
+-- A base vertex stands at its place.
 base-place : (b : BaseMesh) (v : ℕ) → placeOf b (Names.base v) ≡ b .placeAt v
 unfolding placeOf
 base-place b v = refl
-
-mid-place : (b : BaseMesh) (x y : Name) → placeOf b (mid x y) ≡ halfwayOf (placeOf b x) (placeOf b y)
-unfolding placeOf
-mid-place b x y = ⊎-elim (λ e. ap (placeOf b) e) (λ e. ap (placeOf b) e ∙ halfway-swaps (placeOf b y) (placeOf b x)) (mid-which x y)
 
 -- A sixfold volume goes by the four corners alone.
 sixfold-same : (f g : ℕ → Point) → ((k : ℕ) → k < 4 → f k ≡ g k) → sixfoldOf f ≡ sixfoldOf g
@@ -204,7 +191,7 @@ module _ (m : Check.Tables) (b : BaseMesh) (C : Cuts (b .pieces)) (N : Numbers) 
           let q = N .qAt v in
           halfway-only (N .placeAt v) (N .placeAt p) (N .placeAt q) (halfway-exactly (N .placeAt v) (N .placeAt p) (N .placeAt q) .1 (made .halfway))
           ∙ ap₂ halfwayOf (below p (omega (arith, made .p<q, made .q<v)) (omega (arith, made .p<q, made .q<v))) (below q (made .q<v) (omega (arith, made .q<v)))
-          ∙ sym (mid-place b (N .nameAt p) (N .nameAt q))
+          ∙ sym (place-mid b (N .nameAt p) (N .nameAt q))
           ∙ ap (placeOf b) (sym (made .name)))
           (base-or-beyond v (b .vertices))
 

@@ -18,6 +18,7 @@ use Rattle.check_meaning.specs.Accepted.{Accepted}
 use Rattle.check_meaning.specs.Cuts.{stored-four}
 use Rattle.refine_selection.specs.Selected.{isNamed}
 use Rattle.refine_pass.specs.Passes.{refined}
+use Rattle.cuts_names.specs.Lists.{not-so}
 use Rattle.cuts_names.specs.Pieces.{Node, generation}
 use Rattle.cuts.specs.Tables.{Lawful, nodeOf}
 use Rattle.cuts.specs.LinkGrown.{Grown}
@@ -146,3 +147,24 @@ module _ (s : List ℕ) (x : StoredMesh s) where
           not-last = λ i l. let young = named-leaf i l .2 in λ e. omega (arith, young, e);
           round-rises = λ e. good .not-last-round (sym stored-round ∙ e);
         }
+
+  -- And back: a selection that earns none of 11 to 18 is a good one.
+  pub good-selection : (selection : List ℕ) → EarnsNone m selection → GoodSelection (x .job) (x .round) (x .base) (x .cuts) N selection
+  good-selection selection e =
+      record {
+        length = e .length;
+        mark = e .mark;
+        same-job = e .job ∙ stored-job;
+        same-round = e .round ∙ stored-round;
+        rising = e .numbers .rising;
+        there = there;
+        uncut = λ i l. not-so (x .cuts .has (N .nodeAt (namedIn selection i))) (λ c.
+            let first = x .stores .records-numbered .cut (namedIn selection i) (there i l) c in
+            let is : N .firstAt (namedIn selection i) ≡ none = sym (ap (λ (r : Record). r .«first_child») (holds .recordAt (namedIn selection i) (there i l))) ∙ e .leaves i l in
+            omega (arith, is, first .there, few));
+        not-last = λ i l q. e .not-last i l (ap (λ (r : Record). r .piece .generation) (holds .recordAt (namedIn selection i) (there i l)) ∙ q);
+        not-last-round = λ q. e .round-rises (stored-round ∙ q);
+      }
+    where
+      there : (i : ℕ) → i < count selection → namedIn selection i < N .records
+      there i l = omega (arith, e .numbers .there i l, holds .records)

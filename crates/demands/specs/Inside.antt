@@ -1,6 +1,6 @@
 -- The set that refine reaches closes, and lies inside every set that closes. Assumes nothing.
 use mathlib.Core.Path.{_≡_, sym, ap, _∙_}
-use mathlib.Core.Bool.{true, false}
+use mathlib.Core.Bool.{false}
 use mathlib.Core.List.{List}
 use Prim.Native.Nat.{ℕ, suc, _*_, _≤_, _<_}
 use lib.ListN.{length}
@@ -9,13 +9,12 @@ use Rattle.check_refusals.specs.Tables as Check
 use Rattle.refine_pass.specs.Passes.{exceeds, refined}
 use Rattle.cuts_names.specs.Base.{SameFace, markedAt}
 use Rattle.cuts_names.specs.Pieces.{Node, generation, pieceAt}
-use Rattle.cuts.specs.Sets.{Cuts, Leaf, Within, NoneHangs}
+use Rattle.cuts.specs.Sets.{Cuts, Leaf, Within}
 use Rattle.cuts.specs.Depth.{there-rooted}
 use Rattle.cuts.specs.Least.{reached-keeps, reached-least, reached-depth}
 use Rattle.cuts.specs.Count.{CutList, LeafList, leaves-fewer, cuts-bounded}
 use Rattle.cuts.specs.Faces.{shared-face-one-mark}
 use Rattle.demands.specs.BaseMesh.{BaseMesh, named}
-use Rattle.demands.specs.Stored.{Numbers}
 use Rattle.demands.specs.StoredMesh.{StoredMesh}
 use Rattle.demands.specs.Further.{GoodSelection, Selected, Closes}
 use Rattle.demands.specs.PassStages as Stages

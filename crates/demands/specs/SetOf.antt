@@ -1,9 +1,10 @@
--- The set of cuts that accepted tables represent: no edge of it hangs, it fits the limits, and it goes no deeper than generation 15.
--- Assumes nothing.
-use mathlib.Core.Path.{sym, _∙_, subst}
-use mathlib.Core.Logic.{⊎-elim}
-use Prim.Native.Nat.{ℕ, _≤_, _<_}
+-- The set of cuts to which tables have grown from a base: where no edge of the tables hangs none of it does, it fits limits just where the tables do, and
+-- it goes no deeper than they do. Assumes nothing.
+use mathlib.Core.Path.{_≡_, sym, _∙_, subst}
+use mathlib.Core.Logic.{_⊎_, ⊎-elim}
+use Prim.Native.Nat.{ℕ, _+_, _*_, _≤_, _<_}
 use native.Mathlib.Omega.{arith}
+use lib.ListN.{length}
 use borrow.Author.Tests.{lt-ltb, le-ltb}
 use Rattle.laws.specs.Pairs.{SamePair}
 use Rattle.piece.specs.declared.Piece.{Piece}
@@ -12,22 +13,22 @@ use Rattle.piece.specs.Shape.{lastGeneration}
 use Rattle.piece.specs.Ends.{cornerAt, lowerEnd, higherEnd, endsOf}
 use Rattle.stored.specs.declared.Limits.{Limits}
 use Rattle.check_refusals.specs.Tables as Check
-use Rattle.check_refusals.specs.Tables.{baseRecords, allRecords, pieceAt}
+use Rattle.check_refusals.specs.Tables.{baseVertices, allVertices, allRecords, pieceAt}
 use Rattle.check_meaning.specs.Accepted as Accepted
-use Rattle.check_meaning.specs.Accepted.{Within, HasParents, parentP, parentQ}
+use Rattle.check_meaning.specs.Accepted.{HasParents, parentP, parentQ}
 use Rattle.cuts_names.specs.Pieces.{Node, generation}
-use Rattle.cuts.specs.Sets.{Cuts, NoneHangs, HangsAt}
-use Rattle.cuts.specs.Count.{MadeList}
-use Rattle.cuts.specs.Tables.{Lawful, pieceOf, nodeOf, Represents}
-use Rattle.cuts.specs.LinkAlike.{hangs-alike}
+use Rattle.cuts.specs.Sets.{Cuts, Within, NoneHangs}
+use Rattle.cuts.specs.Count.{CutList, MadeList, cuts-fewer, made-fewer}
+use Rattle.cuts.specs.Tables.{Lawful, nodeOf, Represents}
 use Rattle.cuts.specs.LinkLists.{where-length}
 use Rattle.cuts.specs.LinkNodes.{linked}
-use Rattle.cuts.specs.LinkSets.{cutNodes, madeNames, made-count, there-node, leaf-uncut, cuts-listed, made-listed, hangs-in, records-count}
-use Rattle.demands.specs.BaseMesh.{named}
+use Rattle.cuts.specs.LinkSets.{cutNodes, madeNames, made-count, there-node, cuts-listed, made-listed, records-count}
+use Rattle.cuts.specs.LinkGrown.{Grown, grown-rests}
+use Rattle.demands.specs.BaseMesh.{BaseMesh, named}
 use Rattle.demands.specs.Stored.{Fits, Shallow}
 use Rattle.demands.specs.Link.{link}
 use Rattle.demands.specs.Lawful.{is-leaf}
-use Rattle.demands.specs.BaseOf.{baseOf, base-alike, node-makes}
+use Rattle.demands.specs.BaseOf.{node-makes}
 
 -- A vertex whose parents are the two ends of an edge, whichever way round, has the lower for p and the higher for q.
 pub parents-ordered : (m : Check.Tables) (p : Piece) (e v : ℕ) → parentP m v < parentQ m v →
@@ -40,43 +41,65 @@ parents-ordered m p e v o =
     (λ s. let (x, y) = s in let t = lt-ltb a b (omega arith) in record { p = rw t x; q = rw t y })
     (λ s. let (x, y) = s in let f = le-ltb a b (omega arith) in record { p = rw f x; q = rw f y })
 
-module _ (m : Check.Tables) (l : Lawful (link m)) (C : Cuts (baseRecords m)) (rep : Represents (link m) C) where
+module _ (m : Check.Tables) (b : BaseMesh) (D : Cuts (b .pieces)) (g : Grown (named b) (link m) D) where
+  abbrev l : Lawful (link m)
+  l = g .lawful
+
+  abbrev rep : Represents (link m) D
+  rep = g .represents
+
   -- Where no edge hangs in the tables, none hangs in the set.
-  pub set-rests : Accepted.NoneHangs m → NoneHangs (named (baseOf m)) C
-  set-rests rests n f (e, x) =
-      let (c, h, u, q) = leaf-uncut (link m) l C rep n f in
-      let y = hangs-alike (named (baseOf m)) (pieceOf (link m)) (base-alike m l) C n (f .there) e x in
-      let z = hangs-in (link m) l C rep c h e (subst (λ (k : Node). HangsAt (pieceOf (link m)) C k e) (sym q) y) in
-      let v = z .vertex in
-      let d = z .made in
-      rests c h (is-leaf m c .0 u) e (z .edge) v (record { beyond = d .0; there = d .1 })
-      (parents-ordered m (pieceAt m c) e v (l .parents v d .0) (z .ends))
-
-  -- The names of the made vertices are those that the set makes.
-  set-made : MadeList (named (baseOf m)) C (madeNames (link m))
-  set-made =
-      let x = made-listed (link m) l C rep in
-      record {
-        distinct = x .distinct;
-        made = λ v t. let (n, c, e) = x .made v t in (n, c, node-makes m l n (C .rooted n c) ∙ e);
-        all = λ n c. rw (node-makes m l n (C .rooted n c)) (x .all n c);
-      }
-
-  -- Where the tables are within limits, so is the set.
-  pub set-fits : (most : Limits) → Within most m → Fits most (baseOf m) C
-  set-fits most w =
-      record {
-        cuts = cutNodes (link m);
-        cuts-listed = cuts-listed (link m) l C rep;
-        made = madeNames (link m);
-        made-listed = set-made;
-        vertices = rw (made-count (link m) l) (w .vertices);
-        records =
-            rw (where-length (link m .cut) (nodeOf (link m)) (allRecords m)) (omega (arith, w .records, records-count (link m) l));
-      }
+  pub set-rests : Accepted.NoneHangs m → NoneHangs (named b) D
+  set-rests rests =
+      grown-rests g
+      (λ n e h u x.
+      let v = x .vertex in
+      let d = x .made in
+      rests n h (is-leaf m n .0 u) e (x .edge) v (record { beyond = d .0; there = d .1 })
+      (parents-ordered m (pieceAt m n) e v (l .parents v d .0) (x .ends)))
 
   -- Where no record has a generation above 15, no node that is there has.
-  pub set-shallow : ((n : ℕ) → n < allRecords m → pieceAt m n .generation ≤ lastGeneration) → Shallow (baseOf m) C
-  set-shallow g n t =
-      let (c, h, q) = there-node (link m) l C rep n t in
-      subst (λ (k : Node). generation k ≤ lastGeneration) q (omega (arith, g c h, linked (link m) l c h .generation))
+  pub set-shallow : ((n : ℕ) → n < allRecords m → pieceAt m n .generation ≤ lastGeneration) → Shallow b D
+  set-shallow young n t =
+      let (c, h, q) = there-node (link m) l D rep n t in
+      subst (λ (k : Node). generation k ≤ lastGeneration) q (omega (arith, young c h, linked (link m) l c h .generation))
+
+  -- The nodes of the cut records are the cuts of the set.
+  pub grown-cuts : CutList D (cutNodes (link m))
+  grown-cuts = cuts-listed (link m) l D rep
+
+  -- The names of the made vertices are those that the set makes.
+  pub grown-made : MadeList (named b) D (madeNames (link m))
+  grown-made =
+      let x = made-listed (link m) l D rep in
+      record {
+        distinct = x .distinct;
+        made = λ v t. let (n, c, e) = x .made v t in (n, c, sym (node-makes m b D g n c) ∙ e);
+        all = λ n c. rw (← node-makes m b D g n c) (x .all n c);
+      }
+
+  module _ (base-vertices : baseVertices m ≡ b .vertices) where
+    -- There are two records for each cut beyond the base, and one vertex for each that the set makes.
+    pub grown-counts : (allRecords m ≡ b .pieces + 2 * length (cutNodes (link m))) × (allVertices m ≡ b .vertices + length (madeNames (link m)))
+    grown-counts =
+        (omega (arith, rep .bases, records-count (link m) l, where-length (link m .cut) (nodeOf (link m)) (allRecords m)), omega (arith, base-vertices, made-count (link m) l))
+
+    -- Where the tables are within limits, so is the set.
+    pub grown-fits : (most : Limits) → allVertices m ≤ most .vertices → allRecords m ≤ most .records → Fits most b D
+    grown-fits most vertices records =
+        record {
+          cuts = cutNodes (link m);
+          cuts-listed = grown-cuts;
+          made = madeNames (link m);
+          made-listed = grown-made;
+          vertices = omega (arith, grown-counts .1, vertices);
+          records = omega (arith, grown-counts .0, records);
+        }
+
+    -- Where the tables are not, no set with all these cuts is.
+    pub grown-not-fits : (most : Limits) → (most .vertices < allVertices m) ⊎ (most .records < allRecords m) → (X : Cuts (b .pieces)) → Within D X → Fits most b X → ⊥
+    grown-not-fits most beyond X inside fits =
+        ⊎-elim
+        (λ v. omega (arith, v, grown-counts .1, fits .vertices, made-fewer D X inside (named b) (madeNames (link m)) (fits .made) grown-made (fits .made-listed)))
+        (λ r. omega (arith, r, grown-counts .0, fits .records, cuts-fewer D X inside (cutNodes (link m)) (fits .cuts) grown-cuts (fits .cuts-listed)))
+        beyond

@@ -1,0 +1,136 @@
+-- Demand 3, put together. Assumes nothing.
+use mathlib.Core.Path.{_≡_, sym, ap, subst, _∙_}
+use mathlib.Core.Bool.{Bool, true, false, _||_}
+use mathlib.Core.Logic.{_⊎_, _↔_, inl, inr, ⊎-elim}
+use mathlib.Core.List.{List, _++_}
+use Prim.Native.Nat.{ℕ, suc, _+_, _-_, _*_, _/_, _≤_, _<_, max}
+use native.Mathlib.Omega.{arith}
+use lib.Dec.{ltb}
+use lib.ListN.{length, replicate}
+use borrow.Author.Tests.{ltb-true, ne-eqb}
+use Rattle.laws.specs.Below.{either}
+use Rattle.stored.specs.Layout.{limits, headerOf, meshBytes}
+use Rattle.check_refusals.specs.Tables as Check
+use Rattle.check_refusals.specs.Tables.{tablesOf, allVertices, allRecords}
+use Rattle.check_refusals.specs.Check.{checkNumber, checkOf}
+use Rattle.check_refusals.specs.Rows.{report-number}
+use Rattle.check_meaning.specs.Exactly.{accepts-exactly}
+use Rattle.refine_pass.specs.Passes.{exceeds}
+use Rattle.refine_service.specs.Refine.{resultOf, refineNumber, refineBytes}
+use Rattle.refine_meaning.specs.Answer.{refused-bytes, accepted-bytes}
+use Rattle.cuts_names.specs.Pieces.{Node, generation}
+use Rattle.cuts.specs.Sets.{Cuts}
+use Rattle.demands.specs.BaseMesh.{BaseMesh}
+use Rattle.demands.specs.Stored.{Fits}
+use Rattle.demands.specs.StoredMesh.{StoredMesh}
+use Rattle.demands.specs.Further.{GoodSelection, Selected, Closes, Refined, Closed}
+use Rattle.demands.specs.AcceptedOf.{accepted-of-stored}
+use Rattle.demands.specs.SetOf.{grown-cuts, grown-not-fits}
+use Rattle.demands.specs.RefineNumbers.{good-exactly, good-number, good-19-exceeds, refine-accepts-all, used-gets-14}
+use Rattle.demands.specs.StoredFigures.{stored-figures, stored-volume}
+use Rattle.demands.specs.FromStored as From
+use Rattle.demands.specs.Inside.{after, set, set-inside, set-one-mark, set-no-deeper, set-closes, set-none-fewer}
+use Rattle.demands.specs.Result.{is-closed, base-vertices, result-stores, result-right, result-mesh}
+use Rattle.cuts.specs.LinkSets.{cutNodes}
+use Rattle.demands.specs.Link.{link}
+
+-- One of the two tables is beyond its limit.
+beyond : (m : Check.Tables) → exceeds limits (m .header) ≡ true → (limits .vertices < allVertices m) ⊎ (limits .records < allRecords m)
+unfolding exceeds
+beyond m e =
+    ⊎-elim
+    (λ t. inl (ltb-true (limits .vertices) (allVertices m) t))
+    (λ f. inr (ltb-true (limits .records) (allRecords m) (sym (ap (λ (c : Bool). c || ltb (limits .records) (allRecords m)) f) ∙ e)))
+    (either (ltb (limits .vertices) (allVertices m)))
+
+module _ (s : List ℕ) (x : StoredMesh s) (selection : List ℕ) (good : GoodSelection (x .job) (x .round) (x .base) (x .cuts) (x .stores .numbers) selection) (room : ℕ) (full-size : 62484 ≤ room) where
+  abbrev b : BaseMesh
+  b = x .base
+
+  abbrev selected : Node → Type 0
+  selected = Selected (x .stores .numbers) selection
+
+  abbrev t : Check.Tables
+  t = after s x selection good
+
+  abbrev D : Cuts (b .pieces)
+  D = set s x selection good
+
+  accepted : checkNumber s ≡ 0
+  accepted = accepts-exactly s .1 (From.accepted s x)
+
+  -- 19 exactly when the tables exceed their limits.
+  is-19 : (refineNumber s selection room ≡ 19) ↔ (exceeds limits (t .header) ≡ true)
+  is-19 = subst (λ (m : Check.Tables). (refineNumber s selection room ≡ 19) ↔ (exceeds limits (m .header) ≡ true)) (is-closed s x selection good) (good-19-exceeds s selection accepted (From.earns-none s x selection good) room)
+
+  -- Then nothing that closes fits.
+  none-fits : exceeds limits (t .header) ≡ true → (X : Cuts (b .pieces)) → Closes b (x .cuts) selected X → Fits limits b X → ⊥
+  none-fits e X closes = grown-not-fits t b D (From.made s x selection good .grown) (base-vertices s x selection good) limits (beyond t e) X (set-inside s x selection good X closes)
+
+  module _ (few : exceeds limits (t .header) ≡ false) where
+    closes : Closes b (x .cuts) selected D
+    closes = set-closes s x selection good few (cutNodes (link t)) (grown-cuts t b D (From.made s x selection good .grown))
+
+    handed-back : refineNumber s selection room ≡ 0 → Refined (x .job) (x .round) b (x .cuts) selected (refineBytes s selection room) room
+    handed-back e =
+        record {
+          set = D;
+          mesh = meshBytes (resultOf t);
+          written = subst (λ (m : Check.Tables). refineBytes s selection room ≡ meshBytes (resultOf m) ++ replicate (room - length (meshBytes (resultOf m))) 0) (is-closed s x selection good) (accepted-bytes s selection room e);
+          stores = result-stores s x selection good;
+          right = result-right s x selection good few;
+          one-of-them = closes;
+          inside = set-inside s x selection good;
+          none-fewer = set-none-fewer s x selection good (closes .cuts) (closes .cuts-listed);
+          one-mark = set-one-mark s x selection good;
+          volume = λ before after p q. stored-volume (meshBytes (resultOf t)) (result-mesh s x selection good few) after q ∙ sym (stored-volume s x before p);
+          no-deeper = set-no-deeper s x selection good;
+        }
+
+  pub closed-proof : Closed (x .job) (x .round) b (x .cuts) selected (refineNumber s selection room) (refineBytes s selection room) room
+  closed-proof =
+      record {
+        accepted-or-full = good-number s selection accepted (From.earns-none s x selection good) room full-size;
+        full = (
+          λ e. none-fits (is-19 .0 e),
+          λ none. ⊎-elim (λ e. is-19 .1 e) (λ few. absurd (none D (closes few) (result-right s x selection good few .fits))) (either (exceeds limits (t .header))),
+        );
+        full-zeros = λ e. refused-bytes s selection room (ne-eqb (refineNumber s selection room) 0 (λ z. omega (arith, z, e)));
+        refined = λ e. ⊎-elim (λ over. absurd (omega (arith, e, is-19 .1 over))) (λ few. handed-back few e) (either (exceeds limits (t .header)));
+      }
+
+-- ---- what follows
+
+-- What is handed back is a stored mesh.
+abbrev mesh-of : (job round : ℕ) (b : BaseMesh) (C : Cuts (b .pieces)) (selected : Node → Type 0) (bytes : List ℕ) (room : ℕ) (r : Refined job round b C selected bytes room) → StoredMesh (r .mesh)
+mesh-of job round b C selected bytes room r = record { job = job; round = round + 1; base = b; cuts = r .set; right = r .right; stores = r .stores }
+
+-- What refine writes, check accepts.
+pub result-accepted : (job round : ℕ) (b : BaseMesh) (C : Cuts (b .pieces)) (selected : Node → Type 0) (bytes : List ℕ) (room : ℕ) (r : Refined job round b C selected bytes room) → checkOf (r .mesh) .number ≡ 0
+result-accepted job round b C selected bytes room r = report-number (r .mesh) ∙ accepts-exactly (r .mesh) .1 (accepted-of-stored (r .mesh) (mesh-of job round b C selected bytes room r))
+
+-- A good selection is one whose number is none of 11 to 18, whatever the buffer.
+pub earned : (s : List ℕ) (x : StoredMesh s) (selection : List ℕ) →
+    GoodSelection (x .job) (x .round) (x .base) (x .cuts) (x .stores .numbers) selection ↔ ((room : ℕ) → 11 ≤ refineNumber s selection room → refineNumber s selection room ≤ 18 → ⊥)
+earned s x selection =
+    let both = good-exactly s selection (accepts-exactly s .1 (From.accepted s x)) in
+    (λ good. both .0 (From.earns-none s x selection good), λ none. From.good-selection s x selection (both .1 none))
+
+-- The least multiple of three that reaches the depth before and the selected pieces' children.
+pub least-multiple : (s : List ℕ) (x : StoredMesh s) (selected : Node → Type 0) (bytes : List ℕ) (room : ℕ) (r : Refined (x .job) (x .round) (x .base) (x .cuts) selected bytes room) (children : ℕ) → ((n : Node) → selected n → suc (generation n) ≤ children) →
+    checkOf (r .mesh) .deepest ≤ 3 * ((max (checkOf s .deepest) children + 2) / 3)
+least-multiple s x selected bytes room r children kids =
+    let before = stored-figures s x in
+    let after = stored-figures (r .mesh) (mesh-of (x .job) (x .round) (x .base) (x .cuts) selected bytes room r) in
+    let (n, leaf, is) = after .deepest-reached in
+    let k = (max (checkOf s .deepest) children + 2) / 3 in
+    let reach = r .no-deeper k (λ m l. let d = before .deepest-most m l in omega (arith, d)) (λ m c. let d = kids m c in omega (arith, d)) n leaf in
+    omega (arith, is, reach)
+
+-- A selection that was used gets 14 from every later round.
+pub used-refused : (s selection : List ℕ) (room : ℕ) → refineNumber s selection room ≡ 0 → (later : List ℕ) → checkOf later .number ≡ 0 → headerOf later .job ≡ headerOf s .job → headerOf s .round < headerOf later .round →
+    (room′ : ℕ) → refineNumber later selection room′ ≡ 14
+unfolding tablesOf
+used-refused s selection room e later accepted job above room′ =
+    let same = refine-accepts-all s selection room .0 e .good .round in
+    used-gets-14 s selection room e later (sym (report-number later) ∙ accepted) job (omega (arith, same, above)) room′

@@ -1,0 +1,165 @@
+-- Demand 1: "Every byte string and every length of buffer gets either a mesh or a numbered refusal. No caller has to have checked first. After a
+-- refusal the output buffer is all zeros and the inputs stand as they were."
+--
+-- `check(mesh)` returns `checkOf mesh`. `build(job, coordinates, corners, out)` returns `buildNumber job coordinates corners room` and leaves
+-- `buildBytes job coordinates corners room` in `out`; `refine(mesh, selection, out)` returns `refineNumber mesh selection room` and leaves
+-- `refineBytes mesh selection room` in `out`; `room` is the length of `out`. This page says which outcomes these are, for every input.
+--
+-- "No caller has to have checked first": none of the three contracts has a `requires`, and each definition is total.
+-- "The inputs stand as they were": each input is a shared borrow (`&[u8]`, `&[i16]`, `&[u16]`), through which nothing can be written; `out` is the
+-- only `&mut`.
+use mathlib.Core.Path.{_≡_, sym, _∙_}
+use mathlib.Core.Logic.{_≢_, _⊎_}
+use mathlib.Core.List.{List, _++_}
+use Prim.Native.Nat.{ℕ, _-_, _≤_}
+use lib.ListN.{length, replicate}
+use lib.IntN.{ℤ}
+use Rattle.laws.specs.Lists.{Bytes}
+use Rattle.stored.specs.Layout.{limits, meshLength, headerOf, Mesh, meshBytes}
+use Rattle.check_refusals.specs.Check.{checkNumber, checkOf}
+use Rattle.build_service.specs.Build.{plainMesh, buildNumber, buildBytes}
+use Rattle.build_meaning.specs.Written.{Given}
+use Rattle.build_meaning.specs.Output as Build
+use Rattle.refine_service.specs.Refine.{closed, resultOf, refineNumber, refineBytes}
+use Rattle.refine_meaning.specs.Answer as Refine
+use Rattle.demands.specs.Outcomes.{zero-or-not, check-number, refused-figures, no-hanging-edge, accepted-length, build-number, built-vertices, built-records, built-as-long, built-few, built-within, built-bytes, built-header, built-checked, refine-refused, refine-length, refined-vertices, refined-records, refined-as-long, refined-few, refined-within, refined-header}
+
+-- ---- one outcome
+
+-- Each contract is an equation of this form, for a result and for the bytes of an output buffer: no second outcome fits an input.
+pub one-outcome : {A : Type 0} {x r r′ : A} → r ≡ x → r′ ≡ x → r ≡ r′
+one-outcome e e′ = e ∙ sym e′
+
+-- ---- the words
+
+-- What check answers, for a byte string.
+pub record CheckOutcome (s : List ℕ) : Type 0 where
+  -- The number is one of 1 to 10, or 0 on acceptance.
+  pub number : checkOf s .number ≤ 10
+  -- It is acceptance or refusal.
+  pub either : (checkOf s .number ≡ 0) ⊎ (checkOf s .number ≢ 0)
+  -- What is accepted is as long as its header says: "20 + 10·vertices + 17·records".
+  pub accepted : checkOf s .number ≡ 0 → length s ≡ meshLength (headerOf s .vertices) (headerOf s .records)
+  -- With a refusal the number of leaves is 0.
+  pub leaves : checkOf s .number ≢ 0 → checkOf s .leaves ≡ 0
+  -- With a refusal the greatest leaf generation is 0.
+  pub deepest : checkOf s .number ≢ 0 → checkOf s .deepest ≡ 0
+  -- With a refusal the summed sixfold volume is 0.
+  pub sixfold : checkOf s .number ≢ 0 → checkOf s .sixfold ≡ 0
+  -- With any answer but 10 the record of the hanging edge is 0.
+  pub hanging-record : checkOf s .number ≢ 10 → checkOf s .«record» ≡ 0
+  -- With any answer but 10 the code of the hanging edge is 0.
+  pub hanging-edge : checkOf s .number ≢ 10 → checkOf s .edge ≡ 0
+
+-- "A mesh": what an output buffer of this length holds after acceptance.
+pub record MeshIn (out : List ℕ) (room : ℕ) : Type 0 where
+  -- There is a mesh.
+  pub mesh : Mesh
+  -- It has as many vertices as its header says.
+  pub vertices : length (mesh .vertices) ≡ mesh .header .vertices
+  -- It has as many records as its header says.
+  pub records : length (mesh .records) ≡ mesh .header .records
+  -- They are "at most 1,024 vertices".
+  pub few-vertices : mesh .header .vertices ≤ limits .vertices
+  -- They are at most "3,072 records".
+  pub few-records : mesh .header .records ≤ limits .records
+  -- Its bytes come first, and the buffer "is zero past the result".
+  pub bytes : out ≡ meshBytes mesh ++ replicate (room - length (meshBytes mesh)) 0
+  -- They are as many as the header says: "20 + 10·vertices + 17·records".
+  pub as-long : length (meshBytes mesh) ≡ meshLength (mesh .header .vertices) (mesh .header .records)
+  -- The buffer has room for them.
+  pub within : length (meshBytes mesh) ≤ room
+  -- Whoever reads the buffer finds that header.
+  pub header : headerOf out ≡ mesh .header
+
+-- What build answers, for a job number, coordinates and corners, and a length of the output buffer.
+pub record BuildOutcome (job : ℕ) (coordinates : List ℤ) (corners : List ℕ) (room : ℕ) : Type 0 where
+  -- "Build tries 21, then 3, 4, 5, 7, 8, 20": the number is one of these, or 0 on acceptance.
+  pub number : let n = buildNumber job coordinates corners room in
+      (n ≡ 0) ⊎ (n ≡ 21) ⊎ (n ≡ 3) ⊎ (n ≡ 4) ⊎ (n ≡ 5) ⊎ (n ≡ 7) ⊎ (n ≡ 8) ⊎ (n ≡ 20)
+  -- It is acceptance or refusal.
+  pub either : (buildNumber job coordinates corners room ≡ 0) ⊎ (buildNumber job coordinates corners room ≢ 0)
+  -- The output buffer keeps its length.
+  pub length : length (buildBytes job coordinates corners room) ≡ room
+  -- "After a refusal the output buffer is all zeros."
+  pub refused : buildNumber job coordinates corners room ≢ 0 → buildBytes job coordinates corners room ≡ replicate room 0
+  -- After acceptance it holds a mesh, and check accepts that. `Given` says what the types of the arguments say: the job is a u32, the coordinates are
+  -- i16, the corners u16; without it a number might not fit where it is stored.
+  pub accepted : Given job coordinates corners → buildNumber job coordinates corners room ≡ 0 →
+      (out : MeshIn (buildBytes job coordinates corners room) room) × (checkNumber (meshBytes (out .mesh)) ≡ 0)
+
+-- What refine answers, for two byte strings and a length of the output buffer.
+pub record RefineOutcome (mesh selection : List ℕ) (room : ℕ) : Type 0 where
+  -- The number is one of 1 to 20, or 0 on acceptance.
+  pub number : refineNumber mesh selection room ≤ 20
+  -- It is acceptance or refusal.
+  pub either : (refineNumber mesh selection room ≡ 0) ⊎ (refineNumber mesh selection room ≢ 0)
+  -- The output buffer keeps its length.
+  pub length : length (refineBytes mesh selection room) ≡ room
+  -- "After a refusal the output buffer is all zeros."
+  pub refused : refineNumber mesh selection room ≢ 0 → refineBytes mesh selection room ≡ replicate room 0
+  -- After acceptance it holds a mesh (demand 3 says which, and that check accepts it). `Bytes` says that the elements of the first byte string are
+  -- bytes, as those of a `&[u8]` are; without it a number might not fit where it is stored.
+  pub accepted : Bytes mesh → refineNumber mesh selection room ≡ 0 → MeshIn (refineBytes mesh selection room) room
+
+-- ---- the theorems
+
+-- Every byte string has one of check's outcomes.
+pub check-outcome : (s : List ℕ) → CheckOutcome s
+check-outcome s =
+    record {
+      number = check-number s;
+      either = zero-or-not (checkOf s .number);
+      accepted = accepted-length s;
+      leaves = λ n. refused-figures s n .0;
+      deepest = λ n. refused-figures s n .1;
+      sixfold = λ n. refused-figures s n .2;
+      hanging-record = λ n. no-hanging-edge s n .0;
+      hanging-edge = λ n. no-hanging-edge s n .1;
+    }
+
+-- Every job number, all coordinates and corners, and every length of the output buffer have one of build's.
+pub build-outcome : (job : ℕ) (coordinates : List ℤ) (corners : List ℕ) (room : ℕ) → BuildOutcome job coordinates corners room
+build-outcome job coordinates corners room =
+    record {
+      number = build-number job coordinates corners room;
+      either = zero-or-not (buildNumber job coordinates corners room);
+      length = Build.output-length job coordinates corners room;
+      refused = Build.refused-bytes job coordinates corners room;
+      accepted = λ g e. (
+        record {
+          mesh = plainMesh job coordinates corners;
+          vertices = built-vertices job coordinates corners;
+          records = built-records job coordinates corners;
+          few-vertices = built-few job coordinates corners room e .vertices;
+          few-records = built-few job coordinates corners room e .records;
+          bytes = built-bytes job coordinates corners room e;
+          as-long = built-as-long job coordinates corners;
+          within = built-within job coordinates corners room e;
+          header = built-header job coordinates corners room e g;
+        },
+        built-checked job coordinates corners room e g,
+      );
+    }
+
+-- Every two byte strings and every length of the output buffer have one of refine's.
+pub refine-outcome : (mesh selection : List ℕ) (room : ℕ) → RefineOutcome mesh selection room
+refine-outcome mesh selection room =
+    record {
+      number = Refine.number-at-most mesh selection room;
+      either = zero-or-not (refineNumber mesh selection room);
+      length = refine-length mesh selection room;
+      refused = refine-refused mesh selection room;
+      accepted = λ b e.
+          record {
+            mesh = resultOf (closed mesh selection);
+            vertices = refined-vertices mesh selection;
+            records = refined-records mesh selection;
+            few-vertices = refined-few mesh selection room e .0;
+            few-records = refined-few mesh selection room e .1;
+            bytes = Refine.accepted-bytes mesh selection room e;
+            as-long = refined-as-long mesh selection;
+            within = refined-within mesh selection room e;
+            header = refined-header mesh selection room e b;
+          };
+    }

@@ -1,0 +1,228 @@
+-- The proofs for demand 1's page: which outcomes check, build and refine have.
+use mathlib.Core.Path.{_≡_, refl, sym, ap, ap₂, _∙_}
+use mathlib.Core.Bool.{Bool, true, false, cond}
+use mathlib.Core.Logic.{_≢_, _⊎_, inl, inr, ⊎-elim}
+use mathlib.Core.List.{List, _++_, append-assoc}
+use Prim.Native.Nat.{ℕ, _-_, _≤_}
+use native.Mathlib.Omega.{arith}
+use lib.ListN.{length, replicate, length-append, length-replicate}
+use lib.IntN.{ℤ}
+use lib.Dec.{eqb, ltb}
+use borrow.Author.Tests.{eqb-true, eqb-false, ne-eqb, ltb-false}
+use Rattle.laws.specs.Below.{either, list-length}
+use Rattle.laws.specs.Lists.{Bytes, joined, joined-length}
+use Rattle.stored.specs.Layout.{vertexWidth, recordWidth, limits, lastRound, meshLength, headerOf, headerBytes, vertexBytes, recordBytes, Mesh, meshBytes}
+use Rattle.stored.specs.Fitting.{HeaderFits, header-fits}
+use Rattle.stored.specs.Entries.{header-wide, vertex-wide, record-wide, header-again}
+use Rattle.check_refusals.specs.Tables.{tablesOf}
+use Rattle.check_refusals.specs.Refusals.{wrongCounts, badVertices, badBaseRecords, badBaseFaces, unusedVertices}
+use Rattle.check_refusals.specs.Check.{firstBroken, checkNumber, accepted, refusedWith, hangingReport, reportOf, checkOf}
+use Rattle.check_refusals.specs.Bounded.{Bounded, bounded}
+use Rattle.check_refusals.specs.Rows.{check-small, report-number}
+use Rattle.check_meaning.specs.Exactly.{accepts-exactly}
+use Rattle.build_marks.specs.Marking.{plainVertex, plainRecord}
+use Rattle.build_service.specs.Build.{notWhole, plainHeader, plainMesh, plainBytes, buildRows, buildNumber, buildBytes}
+use Rattle.build_meaning.specs.Written.{Given}
+use Rattle.build_meaning.specs.Accepts.{passed, build-fits, check-accepts}
+use Rattle.build_meaning.specs.Output as Build
+use Rattle.refine_pass.specs.Law.{within}
+use Rattle.refine_pass.specs.Passes.{exceeds}
+use Rattle.refine_service.specs.Refine.{closed, resultOf, resultRows, refineNumber, refineBytes}
+use Rattle.refine_service.specs.Order.{selectionNumber, not-last}
+use Rattle.refine_service.specs.Storing.{laterNumber, storedNumber, refine-judged, refine-selected, refine-later}
+use Rattle.refine_meaning.specs.Answer as Refine
+use Rattle.refine_meaning.specs.Answer.{job-kept, round-next, base-vertices-kept, base-records-kept}
+
+-- A number is 0 or it is not.
+pub zero-or-not : (n : ℕ) → (n ≡ 0) ⊎ (n ≢ 0)
+zero-or-not n = ⊎-elim (λ t. inl (eqb-true n 0 t)) (λ f. inr (eqb-false n 0 f)) (either (eqb n 0))
+
+-- ---- check
+
+module _ (s : List ℕ) where
+  pub check-number : checkOf s .number ≤ 10
+  check-number = omega (arith, report-number s, check-small s)
+
+  -- Leaves, depth and volume of a refusal.
+  pub refused-figures : checkOf s .number ≢ 0 → (checkOf s .leaves ≡ 0) × (checkOf s .deepest ≡ 0) × (checkOf s .sixfold ≡ 0)
+  unfolding checkOf reportOf
+  refused-figures n = rw (ne-eqb (checkNumber s) 0 (λ e. n (report-number s ∙ e))) (go (eqb (checkNumber s) 10))
+    where
+      go : (b : Bool) → let r = cond b (hangingReport (tablesOf s)) (refusedWith (checkNumber s)) in (r .leaves ≡ 0) × (r .deepest ≡ 0) × (r .sixfold ≡ 0)
+      go true = (refl, refl, refl)
+      go false = (refl, refl, refl)
+
+  -- The hanging edge of any answer but 10.
+  pub no-hanging-edge : checkOf s .number ≢ 10 → (checkOf s .«record» ≡ 0) × (checkOf s .edge ≡ 0)
+  unfolding checkOf reportOf
+  no-hanging-edge n = rw (ne-eqb (checkNumber s) 10 (λ e. n (report-number s ∙ e))) (go (eqb (checkNumber s) 0))
+    where
+      go : (b : Bool) → let r = cond b (accepted (tablesOf s)) (refusedWith (checkNumber s)) in (r .«record» ≡ 0) × (r .edge ≡ 0)
+      go true = (refl, refl)
+      go false = (refl, refl)
+
+  pub accepted-length : checkOf s .number ≡ 0 → length s ≡ meshLength (headerOf s .vertices) (headerOf s .records)
+  unfolding tablesOf
+  accepted-length e = accepts-exactly s .0 (sym (report-number s) ∙ e) .length .exact
+
+-- ---- a mesh's bytes
+
+-- They are as many as its header says, where its tables have as many entries as it says.
+mesh-as-long : (m : Mesh) → length (m .vertices) ≡ m .header .vertices → length (m .records) ≡ m .header .records →
+    length (meshBytes m) ≡ meshLength (m .header .vertices) (m .header .records)
+unfolding meshBytes
+mesh-as-long m v r =
+    rw (
+      length-append (headerBytes (m .header) ++ joined vertexBytes (m .vertices)) (joined recordBytes (m .records)),
+      length-append (headerBytes (m .header)) (joined vertexBytes (m .vertices)),
+      header-wide (m .header),
+      joined-length vertexBytes vertexWidth vertex-wide (m .vertices),
+      joined-length recordBytes recordWidth record-wide (m .records),
+    )
+    (ap₂ meshLength v r)
+
+-- Its header is read again, whatever stands past the mesh.
+header-first : (m : Mesh) → HeaderFits (m .header) → (rest : List ℕ) → headerOf (meshBytes m ++ rest) ≡ m .header
+unfolding meshBytes
+header-first m f rest =
+    let v = joined vertexBytes (m .vertices) in
+    let r = joined recordBytes (m .records) in
+    ap headerOf (append-assoc (headerBytes (m .header) ++ v) r rest ∙ append-assoc (headerBytes (m .header)) v (r ++ rest))
+    ∙ header-again (m .header) f (v ++ (r ++ rest))
+
+-- ---- build
+
+module _ (job : ℕ) (coordinates : List ℤ) (corners : List ℕ) where
+  pub built-vertices : length (plainMesh job coordinates corners .vertices) ≡ plainMesh job coordinates corners .header .vertices
+  unfolding plainMesh plainHeader
+  built-vertices = list-length (plainVertex coordinates) _
+
+  pub built-records : length (plainMesh job coordinates corners .records) ≡ plainMesh job coordinates corners .header .records
+  unfolding plainMesh plainHeader
+  built-records = list-length (plainRecord coordinates corners) _
+
+  pub built-as-long : length (meshBytes (plainMesh job coordinates corners)) ≡ meshLength (plainMesh job coordinates corners .header .vertices) (plainMesh job coordinates corners .header .records)
+  built-as-long = mesh-as-long (plainMesh job coordinates corners) built-vertices built-records
+
+module _ (job : ℕ) (coordinates : List ℤ) (corners : List ℕ) (room : ℕ) where
+  pub build-number : let n = buildNumber job coordinates corners room in
+      (n ≡ 0) ⊎ (n ≡ 21) ⊎ (n ≡ 3) ⊎ (n ≡ 4) ⊎ (n ≡ 5) ⊎ (n ≡ 7) ⊎ (n ≡ 8) ⊎ (n ≡ 20)
+  unfolding buildNumber buildRows firstBroken
+  build-number =
+      let m = tablesOf (plainBytes job coordinates corners) in
+      go (notWhole coordinates corners) (wrongCounts limits (plainHeader job coordinates corners)) (badVertices m) (badBaseRecords m) (badBaseFaces m) (unusedVertices m) (ltb room (length (plainBytes job coordinates corners)))
+    where
+      go : (a b c d e f g : Bool) → let n : ℕ = cond a 21 (cond b 3 (cond c 4 (cond d 5 (cond e 7 (cond f 8 (cond g 20 0)))))) in
+          (n ≡ 0) ⊎ (n ≡ 21) ⊎ (n ≡ 3) ⊎ (n ≡ 4) ⊎ (n ≡ 5) ⊎ (n ≡ 7) ⊎ (n ≡ 8) ⊎ (n ≡ 20)
+      go true b c d e f g = inr (inl refl)
+      go false true c d e f g = inr (inr (inl refl))
+      go false false true d e f g = inr (inr (inr (inl refl)))
+      go false false false true e f g = inr (inr (inr (inr (inl refl))))
+      go false false false false true f g = inr (inr (inr (inr (inr (inl refl)))))
+      go false false false false false true g = inr (inr (inr (inr (inr (inr (inl refl))))))
+      go false false false false false false true = inr (inr (inr (inr (inr (inr (inr refl))))))
+      go false false false false false false false = inl refl
+
+  module _ (e : buildNumber job coordinates corners room ≡ 0) where
+    pub built-few : Bounded (plainMesh job coordinates corners .header)
+    unfolding plainMesh
+    built-few = bounded (plainHeader job coordinates corners) (passed job coordinates corners room e .counts)
+
+    pub built-within : length (meshBytes (plainMesh job coordinates corners)) ≤ room
+    unfolding plainBytes
+    built-within = passed job coordinates corners room e .fits
+
+    pub built-bytes : buildBytes job coordinates corners room ≡ meshBytes (plainMesh job coordinates corners) ++ replicate (room - length (meshBytes (plainMesh job coordinates corners))) 0
+    unfolding plainBytes
+    built-bytes = Build.accepted-bytes job coordinates corners room e
+
+    module _ (g : Given job coordinates corners) where
+      pub built-header : headerOf (buildBytes job coordinates corners room) ≡ plainMesh job coordinates corners .header
+      built-header = ap headerOf built-bytes ∙ header-first (plainMesh job coordinates corners) (build-fits job coordinates corners room g e .counts .header) _
+
+      pub built-checked : checkNumber (meshBytes (plainMesh job coordinates corners)) ≡ 0
+      unfolding plainBytes
+      built-checked = check-accepts job coordinates corners room g e
+
+-- ---- refine
+
+module _ (mesh selection : List ℕ) where
+  pub refined-vertices : length (resultOf (closed mesh selection) .vertices) ≡ resultOf (closed mesh selection) .header .vertices
+  unfolding resultOf
+  refined-vertices = list-length (closed mesh selection .vertexAt) _
+
+  pub refined-records : length (resultOf (closed mesh selection) .records) ≡ resultOf (closed mesh selection) .header .records
+  unfolding resultOf
+  refined-records = list-length (closed mesh selection .recordAt) _
+
+  pub refined-as-long : length (meshBytes (resultOf (closed mesh selection))) ≡ meshLength (resultOf (closed mesh selection) .header .vertices) (resultOf (closed mesh selection) .header .records)
+  refined-as-long = mesh-as-long (resultOf (closed mesh selection)) refined-vertices refined-records
+
+module _ (mesh selection : List ℕ) (room : ℕ) where
+  abbrev number : ℕ
+  number = refineNumber mesh selection room
+
+  abbrev result : Mesh
+  result = resultOf (closed mesh selection)
+
+  pub refine-refused : refineNumber mesh selection room ≢ 0 → refineBytes mesh selection room ≡ replicate room 0
+  refine-refused n = Refine.refused-bytes mesh selection room (ne-eqb number 0 n)
+
+  module _ (e : refineNumber mesh selection room ≡ 0) where
+    -- The mesh is accepted, the selection can be used, and the result is neither too large for the tables nor for the buffer.
+    checked : checkNumber mesh ≡ 0
+    checked = ⊎-elim (λ t. eqb-true (checkNumber mesh) 0 t) (λ f. refine-judged mesh selection room f .0 ∙ e) (either (eqb (checkNumber mesh) 0))
+
+    selected : selectionNumber (tablesOf mesh) selection ≡ 0
+    selected =
+        ⊎-elim
+        (λ t. eqb-true (selectionNumber (tablesOf mesh) selection) 0 t)
+        (λ f. refine-selected mesh selection room checked f .0 ∙ e)
+        (either (eqb (selectionNumber (tablesOf mesh) selection) 0))
+
+    stored : (exceeds limits (closed mesh selection .header) ≡ false) × (ltb room (meshLength (closed mesh selection .header .vertices) (closed mesh selection .header .records)) ≡ false)
+    unfolding laterNumber storedNumber resultRows firstBroken
+    stored = go _ _ (refine-later mesh selection room checked selected ∙ e)
+      where
+        go : (a b : Bool) → _≡_ {A = ℕ} (cond a 19 (cond b 20 0)) 0 → (a ≡ false) × (b ≡ false)
+        go true b q = absurd (omega arith)
+        go false true q = absurd (omega arith)
+        go false false q = (refl, refl)
+
+    pub refined-few : (resultOf (closed mesh selection) .header .vertices ≤ limits .vertices) × (resultOf (closed mesh selection) .header .records ≤ limits .records)
+    unfolding resultOf
+    refined-few = within limits (closed mesh selection .header) (stored .0)
+
+    pub refined-within : length (meshBytes (resultOf (closed mesh selection))) ≤ room
+    unfolding resultOf
+    refined-within =
+        let h = closed mesh selection .header in
+        omega (arith, refined-as-long mesh selection, ltb-false room (meshLength (h .vertices) (h .records)) (stored .1))
+
+    pub refined-header : Bytes mesh → headerOf (refineBytes mesh selection room) ≡ resultOf (closed mesh selection) .header
+    unfolding tablesOf
+    refined-header b = ap headerOf (Refine.accepted-bytes mesh selection room e) ∙ header-first result fits _
+      where
+        given : HeaderFits (headerOf mesh)
+        given = header-fits mesh b
+
+        last : headerOf mesh .round ≢ lastRound
+        last = eqb-false (headerOf mesh .round) lastRound (not-last (tablesOf mesh) selection selected)
+
+        fits : HeaderFits (result .header)
+        fits =
+            record {
+              job = omega (arith, job-kept mesh selection, given .job);
+              round = omega (arith, round-next mesh selection, given .round, last);
+              baseVertices = omega (arith, base-vertices-kept mesh selection, given .baseVertices);
+              vertices = omega (arith, refined-few .0);
+              baseRecords = omega (arith, base-records-kept mesh selection, given .baseRecords);
+              records = omega (arith, refined-few .1);
+            }
+
+  pub refine-length : length (refineBytes mesh selection room) ≡ room
+  refine-length =
+      ⊎-elim
+      (λ e. rw (Refine.accepted-bytes mesh selection room e) (simp (length-append, length-replicate) (omega (arith, refined-within e))))
+      (λ n. rw (refine-refused n) (length-replicate room 0))
+      (zero-or-not number)
