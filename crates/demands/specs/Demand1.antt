@@ -3,16 +3,17 @@
 --
 -- `check(mesh)` returns `checkOf mesh`. `build(job, coordinates, corners, out)` returns `buildNumber job coordinates corners room` and leaves
 -- `buildBytes job coordinates corners room` in `out`; `refine(mesh, selection, out)` returns `refineNumber mesh selection room` and leaves
--- `refineBytes mesh selection room` in `out`; `room` is the length of `out`. This page says which outcomes these are, for every input.
+-- `refineBytes mesh selection room` in `out`; `room` is the length of `out`. The listing's lines are `linesOf mesh`. This page says which outcomes
+-- these are, for every input.
 --
 -- "No caller has to have checked first": none of the three contracts has a `requires`, and each definition is total.
 -- "The inputs stand as they were": each input is a shared borrow (`&[u8]`, `&[i16]`, `&[u16]`), through which nothing can be written; `out` is the
 -- only `&mut`.
 use mathlib.Core.Path.{_≡_, sym, _∙_}
 use mathlib.Core.Logic.{_≢_, _⊎_}
-use mathlib.Core.List.{List, _++_}
-use Prim.Native.Nat.{ℕ, _-_, _≤_}
-use lib.ListN.{length, replicate}
+use mathlib.Core.List.{List, [], _∷_, _++_}
+use Prim.Native.Nat.{ℕ, _-_, _≤_, _<_}
+use lib.ListN.{length, getD, replicate}
 use lib.IntN.{ℤ}
 use Rattle.laws.specs.Lists.{Bytes}
 use Rattle.stored.specs.Layout.{limits, meshLength, headerOf, Mesh, meshBytes}
@@ -22,7 +23,10 @@ use Rattle.build_meaning.specs.Written.{Given}
 use Rattle.build_meaning.specs.Output as Build
 use Rattle.refine_service.specs.Refine.{closed, resultOf, refineNumber, refineBytes}
 use Rattle.refine_meaning.specs.Answer as Refine
-use Rattle.demands.specs.Outcomes.{zero-or-not, check-number, refused-figures, no-hanging-edge, accepted-length, build-number, built-vertices, built-records, built-as-long, built-few, built-within, built-bytes, built-header, built-checked, refine-refused, refine-length, refined-vertices, refined-records, refined-as-long, refined-few, refined-within, refined-header}
+use Rattle.list_lines.specs.Lines.{refusedLine}
+use Rattle.list_meaning.specs.Listing.{linesOf}
+use Rattle.list_meaning.specs.Longest.{no-line-longer}
+use Rattle.demands.specs.Outcomes.{zero-or-not, check-number, refused-figures, no-hanging-edge, accepted-length, build-number, built-vertices, built-records, built-as-long, built-few, built-within, built-bytes, built-header, built-checked, refine-refused, refine-length, refined-vertices, refined-records, refined-as-long, refined-few, refined-within, refined-header, too-long-line, refused-line, line-ends}
 
 -- ---- one outcome
 
@@ -102,6 +106,18 @@ pub record RefineOutcome (mesh selection : List ℕ) (room : ℕ) : Type 0 where
   -- bytes, as those of a `&[u8]` are; without it a number might not fit where it is stored.
   pub accepted : Bytes mesh → refineNumber mesh selection room ≡ 0 → MeshIn (refineBytes mesh selection room) room
 
+-- What the listing says, for a byte string: its lines. No contract can say what a program writes; the functions that set the lines have contracts.
+pub record ListingOutcome (s : List ℕ) : Type 0 where
+  -- "Input longer than the largest mesh is refused with 1 here": "one line, `refused ` and the number".
+  pub too-long : meshLength (limits .vertices) (limits .records) < length s → linesOf s ≡ refusedLine 1 ∷ []
+  -- What check refuses is refused with its number, in one line.
+  pub refused : length s ≤ meshLength (limits .vertices) (limits .records) → checkOf s .number ≢ 0 → linesOf s ≡ refusedLine (checkOf s .number) ∷ []
+  -- "Every line ends with a line feed", whose byte is 10.
+  pub line-feed : (k : ℕ) → k < length (linesOf s) → (text : List ℕ) × (getD (linesOf s) k [] ≡ text ++ 10 ∷ [])
+  -- "Each line is set in a 128-byte line buffer": none is longer. `Bytes` says that the elements of the byte string are bytes, as those of a `&[u8]`
+  -- are; without it a number might have more digits.
+  pub at-most-128 : Bytes s → (k : ℕ) → length (getD (linesOf s) k []) ≤ 128
+
 -- ---- the theorems
 
 -- Every byte string has one of check's outcomes.
@@ -163,3 +179,7 @@ refine-outcome mesh selection room =
             header = refined-header mesh selection room e b;
           };
     }
+
+-- Every byte string has one of the listing's.
+pub listing-outcome : (s : List ℕ) → ListingOutcome s
+listing-outcome s = record { too-long = too-long-line s; refused = refused-line s; line-feed = line-ends s; at-most-128 = no-line-longer s }

@@ -20,7 +20,9 @@ use Rattle.demands.specs.ClosedProof.{closed-proof, result-accepted, use
 -- The demand, for every stored mesh, every good selection and every full-size buffer.
 pub demand-3 : (s : List ℕ) (x : StoredMesh s) (selection : List ℕ) → GoodSelection (x .job) (x .round) (x .base) (x .cuts) (x .stores .numbers) selection → (room : ℕ) → 62484 ≤ room →
     Closed (x .job) (x .round) (x .base) (x .cuts) (Selected (x .stores .numbers) selection) (refine s selection room) (refineOut s selection room) room
-demand-3 = closed-proof
+demand-3 s x selection good room full-size =
+    let c = closed-proof s x selection good room full-size in
+    record { accepted-or-full = c .accepted-or-full; full = c .full; full-zeros = c .full-zeros; refined = c .refined }
 
 -- "a selection that earns none of refusals 11 to 18": a good one is one whose number is none of them, whatever the buffer.
 pub good-exactly : (s : List ℕ) (x : StoredMesh s) (selection : List ℕ) →

@@ -4,6 +4,8 @@ pub mod BaseMesh
 pub mod Stored
 pub mod StoredMesh
 pub mod Figures
+pub mod PlainBase
+pub mod BuildWords
 pub mod Selections
 pub mod Further
 -- the proofs
@@ -31,6 +33,11 @@ pub mod Hanging
 pub mod PassStages
 pub mod Closing
 pub mod RefineNumbers
+pub mod PlainRules
+pub mod GivenTypes
+pub mod BuildNumbers
+pub mod BuildRefused
+pub mod BuildStores
 pub mod FromStored
 pub mod Inside
 pub mod StoredFigures
@@ -42,4 +49,5 @@ pub mod Services
 pub mod Demand1
 pub mod Demand2
 pub mod Demand3
+pub mod Numbers
 pub mod Starred

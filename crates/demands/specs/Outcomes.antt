@@ -1,20 +1,22 @@
--- The proofs for demand 1's page: which outcomes check, build and refine have.
+-- The proofs for demand 1's page: which outcomes check, build, refine and the listing have.
 use mathlib.Core.Path.{_≡_, refl, sym, ap, ap₂, _∙_}
 use mathlib.Core.Bool.{Bool, true, false, cond}
 use mathlib.Core.Logic.{_≢_, _⊎_, inl, inr, ⊎-elim}
-use mathlib.Core.List.{List, _++_, append-assoc}
-use Prim.Native.Nat.{ℕ, _-_, _≤_}
+use mathlib.Core.List.{List, [], _∷_, _++_, append-assoc}
+use Prim.Native.Nat.{ℕ, zero, suc, _-_, _≤_, _<_}
+use native.Mathlib.Nat.{not-suc-le-zero, le-of-suc-le-suc}
 use native.Mathlib.Omega.{arith}
-use lib.ListN.{length, replicate, length-append, length-replicate}
+use lib.ListN.{length, getD, replicate, length-append, length-replicate}
 use lib.IntN.{ℤ}
 use lib.Dec.{eqb, ltb}
-use borrow.Author.Tests.{eqb-true, eqb-false, ne-eqb, ltb-false}
+use borrow.Author.Tests.{eqb-true, eqb-false, ne-eqb, lt-ltb, le-ltb, ltb-false}
 use Rattle.laws.specs.Below.{either, list-length}
 use Rattle.laws.specs.Lists.{Bytes, joined, joined-length}
 use Rattle.stored.specs.Layout.{vertexWidth, recordWidth, limits, lastRound, meshLength, headerOf, headerBytes, vertexBytes, recordBytes, Mesh, meshBytes}
 use Rattle.stored.specs.Fitting.{HeaderFits, header-fits}
 use Rattle.stored.specs.Entries.{header-wide, vertex-wide, record-wide, header-again}
-use Rattle.check_refusals.specs.Tables.{tablesOf}
+use Rattle.check_refusals.specs.declared.Report.{Report}
+use Rattle.check_refusals.specs.Tables.{Tables, tablesOf, allRecords, isLeaf, pieceAt}
 use Rattle.check_refusals.specs.Refusals.{wrongCounts, badVertices, badBaseRecords, badBaseFaces, unusedVertices}
 use Rattle.check_refusals.specs.Check.{firstBroken, checkNumber, accepted, refusedWith, hangingReport, reportOf, checkOf}
 use Rattle.check_refusals.specs.Bounded.{Bounded, bounded}
@@ -32,6 +34,9 @@ use Rattle.refine_service.specs.Order.{selectionNumber, not-last}
 use Rattle.refine_service.specs.Storing.{laterNumber, storedNumber, refine-judged, refine-selected, refine-later}
 use Rattle.refine_meaning.specs.Answer as Refine
 use Rattle.refine_meaning.specs.Answer.{job-kept, round-next, base-vertices-kept, base-records-kept}
+use Rattle.list_text.specs.Text.{lineFeed, figures}
+use Rattle.list_lines.specs.Lines.{refusedLine, countFigures, checkFigures, headingLine, cornerFigures, edgeFigures, leafLine}
+use Rattle.list_meaning.specs.Listing.{leafLines, meshLines, judgedLines, linesOf}
 
 -- A number is 0 or it is not.
 pub zero-or-not : (n : ℕ) → (n ≡ 0) ⊎ (n ≢ 0)
@@ -226,3 +231,62 @@ module _ (mesh selection : List ℕ) (room : ℕ) where
       (λ e. rw (Refine.accepted-bytes mesh selection room e) (simp (length-append, length-replicate) (omega (arith, refined-within e))))
       (λ n. rw (refine-refused n) (length-replicate room 0))
       (zero-or-not number)
+
+-- ---- the listing
+
+-- The line ends with a line feed.
+abbrev Ended : List ℕ → Type 0
+Ended line = (text : List ℕ) × (line ≡ text ++ 10 ∷ [])
+
+-- Each of these lines does.
+abbrev AllEnded : List (List ℕ) → Type 0
+AllEnded [] = Unit {0}
+AllEnded (line ∷ rest) = Ended line × AllEnded rest
+
+ended-append : (a b : List (List ℕ)) → AllEnded a → AllEnded b → AllEnded (a ++ b)
+ended-append [] b p q = q
+ended-append (line ∷ rest) b p q = (p .0, ended-append rest b (p .1) q)
+
+ended-at : (lines : List (List ℕ)) → AllEnded lines → (k : ℕ) → k < length lines → Ended (getD lines k [])
+ended-at [] p k l = absurd (not-suc-le-zero l)
+ended-at (line ∷ rest) p zero l = p .0
+ended-at (line ∷ rest) p (suc k) l = ended-at rest (p .1) k (le-of-suc-le-suc l)
+
+refused-ended : (number : ℕ) → AllEnded (refusedLine number ∷ [])
+unfolding refusedLine lineFeed
+refused-ended number = ((figures (("refused ", number) ∷ []), refl), tt)
+
+leaves-ended : (m : Tables) (n : ℕ) → AllEnded (leafLines m n)
+unfolding leafLines leafLine lineFeed
+leaves-ended m zero = tt
+leaves-ended m (suc n) = ended-append (leafLines m n) (cond (isLeaf m n) (leafLine n (pieceAt m n) ∷ []) []) (leaves-ended m n) (here (isLeaf m n))
+  where
+    here : (leaf : Bool) → AllEnded (cond leaf (leafLine n (pieceAt m n) ∷ []) [])
+    here true = ((figures (cornerFigures n (pieceAt m n) ++ edgeFigures (pieceAt m n)), refl), tt)
+    here false = tt
+
+mesh-ended : (m : Tables) (r : Report) → AllEnded (meshLines m r)
+unfolding meshLines headingLine lineFeed
+mesh-ended m r = ((figures (countFigures (m .header) ++ checkFigures r), refl), leaves-ended m (allRecords m))
+
+all-ended : (s : List ℕ) → AllEnded (linesOf s)
+unfolding linesOf judgedLines
+all-ended s = go (ltb (meshLength (limits .vertices) (limits .records)) (length s)) (eqb (checkOf s .number) 0)
+  where
+    go : (a b : Bool) → AllEnded (cond a (refusedLine 1 ∷ []) (cond b (meshLines (tablesOf s) (checkOf s)) (refusedLine (checkOf s .number) ∷ [])))
+    go true b = refused-ended 1
+    go false true = mesh-ended (tablesOf s) (checkOf s)
+    go false false = refused-ended (checkOf s .number)
+
+module _ (s : List ℕ) where
+  pub line-ends : (k : ℕ) → k < length (linesOf s) → (text : List ℕ) × (getD (linesOf s) k [] ≡ text ++ 10 ∷ [])
+  line-ends = ended-at (linesOf s) (all-ended s)
+
+  -- What is longer than the largest mesh is refused with 1, and what check refuses with its number.
+  pub too-long-line : meshLength (limits .vertices) (limits .records) < length s → linesOf s ≡ refusedLine 1 ∷ []
+  unfolding linesOf
+  too-long-line l = rw (lt-ltb (meshLength (limits .vertices) (limits .records)) (length s) l)
+
+  pub refused-line : length s ≤ meshLength (limits .vertices) (limits .records) → checkOf s .number ≢ 0 → linesOf s ≡ refusedLine (checkOf s .number) ∷ []
+  unfolding linesOf judgedLines
+  refused-line l n = rw (le-ltb (meshLength (limits .vertices) (limits .records)) (length s) l, ne-eqb (checkOf s .number) 0 n)
