@@ -45,6 +45,7 @@ pub mod Result
 pub mod ClosedProof
 pub mod Outcomes
 -- the demands
+pub mod Impostors
 pub mod Services
 pub mod Demand1
 pub mod Demand2
