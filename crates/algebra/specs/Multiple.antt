@@ -51,14 +51,6 @@ multiple-half {m} w h =
       is = cancel 2 w (pos m *ℤ h .quotient) (lit< tt) (sym (double w) ∙ h .is ∙ times-assoc (pos 2) (pos m) (h .quotient));
     }
 
--- a multiple of k m is a multiple of m
-pub multiple-factor : (k : ℕ) {m : ℕ} {z : ℤ} → Multiple (k * m) z → Multiple m z
-multiple-factor k {m} h =
-    record {
-      quotient = pos k *ℤ h .quotient;
-      is = h .is ∙ ap (λ (z : ℤ). z *ℤ h .quotient) (*ℤ-comm (pos k) (pos m)) ∙ times-assoc (pos m) (pos k) (h .quotient);
-    }
-
 exact : (m n : ℕ) → n % m ≡ 0 → n ≡ m * (n / m)
 exact m n e = sym (div-add-mod n m) ∙ ap (λ (k : ℕ). m * (n / m) + k) e ∙ add-zero (m * (n / m))
 

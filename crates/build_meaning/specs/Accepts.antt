@@ -28,11 +28,11 @@ use Rattle.check_meaning.specs.Vertices.{rule4-holds}
 use Rattle.check_meaning.specs.Bases.{valid-marks, rule5-holds}
 use Rattle.check_meaning.specs.Faces.{rule7-holds, rule8-holds}
 use Rattle.check_meaning.specs.Exactly.{accepts-exactly}
-use Rattle.build_marks.specs.Marking.{plainVertex, plainPiece, markedPiece, plainRecord}
+use Rattle.build_marks.specs.Marking.{plainPiece, markedPiece, plainRecord}
 use Rattle.build_service.specs.Build.{notWhole, plainHeader, plainMesh, plainBytes, buildRows, buildNumber}
 use Rattle.build_meaning.specs.Edges.{Different}
 use Rattle.build_meaning.specs.Marks.{marked-valid}
-use Rattle.build_meaning.specs.Written.{Given, CountsFit, written, corner-small, plain-corner-read, plain-fits, header-read, vertex-read, record-read}
+use Rattle.build_meaning.specs.Written.{Given, CountsFit, written, corner-small, plain-corner-read, plain-fits, header-read, record-read}
 
 -- What build has tried where it accepts, in its own order.
 pub record Passed (job : ℕ) (coordinates : List ℤ) (corners : List ℕ) (room : ℕ) : Type 0 where
@@ -116,10 +116,6 @@ module _ (job : ℕ) (coordinates : List ℤ) (corners : List ℕ) where
     all-plain : allRecords m ≡ length corners / 4
     unfolding plainHeader
     all-plain = ap (λ (h : Header). h .records) build-header
-
-    -- The vertices that check reads are the plain ones.
-    pub build-vertex : (v : ℕ) → v < length coordinates / 3 → written job coordinates corners .vertexAt v ≡ plainVertex coordinates v
-    build-vertex = vertex-read job coordinates corners g fit
 
     right-records : RightBaseRecords m
     right-records = rule5-holds m .0 (tried .base-records)

@@ -9,9 +9,8 @@ use native.Mathlib.Omega.{arith}
 use lib.ListN.{getD}
 use Rattle.laws.specs.Below.{either}
 use Rattle.stored.specs.Layout.{limits}
-use Rattle.check_refusals.specs.declared.Report.{Report}
 use Rattle.check_refusals.specs.Tables.{tablesOf}
-use Rattle.check_refusals.specs.Check.{rows, tableRows, checkNumber, checkOf}
+use Rattle.check_refusals.specs.Check.{rows, tableRows, checkNumber}
 use Rattle.check_meaning.specs.Tests.{Fails}
 use Rattle.check_meaning.specs.Accepted.{RightLength, RightMark, Within, RightCounts, RightVertices, RightBaseRecords, RightBaseMarks, RightFaces, RightUses, RightCuts, NoneHangs, Accepted}
 use Rattle.check_meaning.specs.Heading.{rule1-holds, rule2-holds, rule3-holds}
@@ -129,7 +128,3 @@ module _ (s : List ℕ) where
         (tt, (a .length, (a .mark, ((a .limits, m .counts), (m .vertices, (m .base-records, (m .base-marks, (m .faces, (m .uses, (m .cuts, (a .none-hangs, tt))))))))))) in
         zero-exactly .1 (λ k. rules-hold (suc k) (λ j l. r j) k (le-refl (suc k))),
   )
-
--- One outcome for each input.
-pub outcome-unique : (s : List ℕ) (r r′ : Report) → r ≡ checkOf s → r′ ≡ checkOf s → r ≡ r′
-outcome-unique s r r′ e e′ = e ∙ sym e′

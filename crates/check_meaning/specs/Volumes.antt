@@ -5,7 +5,6 @@ use mathlib.Core.Logic.{_≢_, ⊎-elim}
 use Prim.Native.Nat.{ℕ, _+_, _*_, _<_}
 use native.Mathlib.Omega.{arith}
 use lib.Dec.{eqb, ltb}
-use lib.IntN.{ℤ, pos, negℤ, natAbs, _+ℤ_, +ℤ-invr}
 use borrow.Author.Tests.{ltb-true, ltb-false, eqb-true, eqb-false, ne-eqb}
 use Rattle.laws.specs.Below.{putAt, sumBelow, sum-same, either}
 use Rattle.algebra.specs.Multiple.{halves}
@@ -13,10 +12,8 @@ use Rattle.piece.specs.declared.Piece.{Piece}
 use Rattle.piece.specs.Shape.{shapeOf}
 use Rattle.piece.specs.Ends.{cornerAt, lowerEnd, higherEnd, endsOf}
 use Rattle.piece_cut.specs.Cut.{childOf, cutOf}
-use Rattle.grid.specs.Places.{Point}
-use Rattle.grid_volume.specs.Volume.{determinantOf, differencesOf, sixfoldOf}
-use Rattle.grid_volume.specs.Halving.{determinant-turned}
-use Rattle.grid.specs.Corners.{exchanged, Midpoint}
+use Rattle.grid_volume.specs.Volume.{sixfoldOf}
+use Rattle.grid.specs.Corners.{Midpoint}
 use Rattle.grid_volume.specs.VolumeTheorems.{half-sixfold, sixfold-kept}
 use Rattle.stored.specs.Layout.{none}
 use Rattle.check_refusals.specs.Tables.{Tables, baseRecords, allRecords, pieceAt, isLeaf, cornerPoint, sixfoldAt}
@@ -42,21 +39,6 @@ child-sixfold m p w k f l =
 ends-apart : (p : Piece) (e : ℕ) → e < 6 → lowerEnd p e ≢ higherEnd p e
 ends-apart p e l q =
     slots-apart e l (⊎-elim (λ h. h .0 ∙ q ∙ sym (h .1)) (λ h. h .1 ∙ sym q ∙ sym (h .0)) (ends-are p e))
-
--- Two corners at one place leave no volume: their exchange turns the sign of the determinant and changes nothing.
-flat : (corner : ℕ → Point) (i j : ℕ) → i < 4 → j < 4 → i ≢ j → corner i ≡ corner j → sixfoldOf corner ≡ 0
-unfolding sixfoldOf
-flat corner i j hi hj apart same =
-    let z = determinantOf (differencesOf corner) in
-    let turned : z ≡ negℤ z = ap (λ (f : ℕ → Point). determinantOf (differencesOf f)) (sym (fun-ext λ k. stays k)) ∙ determinant-turned corner i j hi hj apart in
-    ap natAbs (halves z (pos 0) (ap (λ (x : ℤ). z +ℤ x) turned ∙ +ℤ-invr z))
-  where
-    stays : (k : ℕ) → exchanged i j corner k ≡ corner k
-    stays k =
-        ⊎-elim
-        (λ t. rw t (sym same ∙ ap corner (sym (eqb-true k i t))))
-        (λ f. rw f (⊎-elim (λ t. rw t (same ∙ ap corner (sym (eqb-true k j t)))) (λ g. rw g) (either (eqb k j))))
-        (either (eqb k i))
 
 -- The sixfold volume of record n.
 abbrev pub volume : Tables → ℕ → ℕ
@@ -95,14 +77,6 @@ module _ (m : Tables) (a : RightMesh m) (four : (n : ℕ) → Four (pieceAt m n)
       let Half : ℕ → Type 0 = λ k. volume m k * 2 ≡ volume m (d .parent) in
       let here : Half c = ⊎-elim (λ e. subst Half e first) (λ e. subst Half e second) (d .child .is) in
       h (omega (arith, here, none)))
-
-  -- So every record has four different corners.
-  pub every-different : (n : ℕ) → n < allRecords m → (j k : ℕ) → j < 4 → k < 4 → cornerAt (pieceAt m n) j ≡ cornerAt (pieceAt m n) k → j ≡ k
-  unfolding sixfoldAt
-  every-different n l j k lj lk same =
-      ⊎-elim (λ t. eqb-true j k t)
-      (λ f. absurd (every-volume n l (flat (cornerPoint (m .vertexAt) (pieceAt m n)) j k lj lk (eqb-false j k f) (ap (pointAt m) same))))
-      (either (eqb j k))
 
   -- A record of the base is no child; any other is the child of exactly one.
   by-parents : (c : ℕ) → c < allRecords m → sumBelow (allRecords m) (share m c) ≡ cond (ltb c (baseRecords m)) 0 (volume m c)

@@ -10,8 +10,8 @@ use Rattle.cuts.specs.Sets.{Cuts, HangsAt, Hangs, NoneHangs}
 use Rattle.cuts_names.specs.Macro.{Alike}
 use Rattle.cuts.specs.Least.{OneMore, adding, adding-is, Reaches, cut}
 use Rattle.cuts.specs.Tables.{Tables, Lawful, HangsIn, pieceOf, nodeOf, Represents, Appended}
-use Rattle.cuts.specs.LinkAlike.{alike-self, alike-back, alike-then, hangs-alike}
-use Rattle.cuts.specs.LinkSets.{cutsOf, represented, node-there, uncut-leaf, leaf-uncut, hangs-at, hangs-in}
+use Rattle.cuts.specs.LinkAlike.{alike-back, alike-then, hangs-alike}
+use Rattle.cuts.specs.LinkSets.{node-there, uncut-leaf, leaf-uncut, hangs-at, hangs-in}
 use Rattle.cuts.specs.LinkAppend.{append-lawful, append-represents, pieces-stay}
 
 -- Lawful tables that represent the set D of cuts of this base.
@@ -19,10 +19,6 @@ pub record Grown (base : ℕ → Piece Name) (t : Tables) {count : ℕ} (D : Cut
   pub lawful : Lawful t
   pub represents : Represents t D
   pub alike : (r : ℕ) → r < count → Alike (pieceOf t r) (base r)
-
--- Lawful tables are grown from their own base.
-pub grown-start : (t : Tables) (l : Lawful t) → Grown (pieceOf t) t (cutsOf t l)
-grown-start t l = record { lawful = l; represents = represented t l; alike = λ r h. alike-self (pieceOf t r) }
 
 module _ {base : ℕ → Piece Name} {t : Tables} {count : ℕ} {D : Cuts count} (g : Grown base t D) where
   -- An edge of a record that hangs in the tables hangs in the set, over this base.
@@ -40,10 +36,6 @@ module _ {base : ℕ → Piece Name} {t : Tables} {count : ℕ} {D : Cuts count}
   pub grown-rests : ((n e : ℕ) → n < t .records → t .cut n ≡ false → HangsIn t n e → ⊥) → NoneHangs base D
   grown-rests none n f (e, x) =
       let (c, h, u, q) = leaf-uncut t (g .lawful) D (g .represents) n f in none c e h u (hangs-grown c h e (rw q x))
-
-  -- Where no leaf of the set hangs, no uncut record does.
-  pub rests-grown : NoneHangs base D → (n e : ℕ) → n < t .records → t .cut n ≡ false → HangsIn t n e → ⊥
-  rests-grown none n e h u x = none (nodeOf t n) (uncut-leaf t (g .lawful) D (g .represents) n h u) (e, grown-hangs n h e x)
 
   module _ {n w : ℕ} {t′ : Tables} (h : n < t .records) (u : t .cut n ≡ false) (a : Appended t n w t′) where
     -- Appending one cut to the tables adds its node to the set.

@@ -32,11 +32,6 @@ module _ (mesh selection : List ℕ) (room : ℕ) where
   unfolding refineBytes
   accepted-bytes e = rw e
 
-  -- One outcome for each input.
-  pub refine-unique : (n k : ℕ) (s t : List ℕ) → n ≡ refineNumber mesh selection room → s ≡ refineBytes mesh selection room →
-      k ≡ refineNumber mesh selection room → t ≡ refineBytes mesh selection room → (n ≡ k) × (s ≡ t)
-  refine-unique n k s t a b c d = (a ∙ sym c, b ∙ sym d)
-
   -- On an accepted mesh a whole selection of another job gets 13, whatever else it says.
   module _ (accepted : checkNumber mesh ≡ 0) (whole : rightSelectionLength selection ≡ true) (marked : rightSelectionMark selection ≡ true) where
     pub another-job-refused : anotherJob (headerOf mesh) (selectionOf selection) ≡ true → refineNumber mesh selection room ≡ 13
