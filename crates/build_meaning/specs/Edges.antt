@@ -1,12 +1,12 @@
 -- The ends of a piece's edges, as the ranking sees them.
-use mathlib.Core.Path.{_≡_, refl, sym, _∙_}
+use mathlib.Core.Path.{_≡_, refl}
 use mathlib.Core.Logic.{_⊎_, inl, inr, ⊎-elim}
 use Prim.Native.Nat.{ℕ, _≤_, _<_}
 use native.Mathlib.Omega.{arith}
 use lib.Dec.{ltb}
 use borrow.Author.Tests.{ltb-true, ltb-false}
 use Rattle.laws.specs.Below.{foldBelow, allBelow, either}
-use Rattle.laws.specs.Pairs.{SamePair}
+use Rattle.laws.specs.Pairs.{SamePair, pair-through, pair-turned, pair-in-order}
 use Rattle.piece.specs.declared.Piece.{Piece}
 use Rattle.piece_edges.specs.Edges.{lowSlot, highSlot, slots-small}
 use Rattle.piece.specs.Ends.{cornerAt, lowerEnd, higherEnd, endsOf}
@@ -38,22 +38,11 @@ module _ (p : Piece) (e : ℕ) where
       (λ f. rw f (inr (refl, refl), ltb-false low high f))
       (either (ltb low high))
 
--- The same two corners, in the same order or the other.
-same-pair-through : {x y a b c d : ℕ} → SamePair x y a b → SamePair x y c d → SamePair a b c d
-same-pair-through (inl h) (inl k) = inl (sym (h .0) ∙ k .0, sym (h .1) ∙ k .1)
-same-pair-through (inl h) (inr k) = inr (sym (h .0) ∙ k .0, sym (h .1) ∙ k .1)
-same-pair-through (inr h) (inl k) = inr (sym (h .1) ∙ k .1, sym (h .0) ∙ k .0)
-same-pair-through (inr h) (inr k) = inl (sym (h .1) ∙ k .1, sym (h .0) ∙ k .0)
-
--- Read from right to left.
-turned : {x y a b : ℕ} → SamePair x y a b → SamePair a b x y
-turned h = same-pair-through h (inl (refl, refl))
-
 -- Two different edges of a piece with four different corners have different ends.
 pub edge-by-ends : (p : Piece) → Different p → (e f : ℕ) → e < 6 → f < 6 → endsOf p e .lower ≡ endsOf p f .lower → endsOf p e .higher ≡ endsOf p f .higher → e ≡ f
 edge-by-ends p d e f le lf lower higher =
     let corners : SamePair (cornerAt p (lowSlot e)) (cornerAt p (highSlot e)) (cornerAt p (lowSlot f)) (cornerAt p (highSlot f)) =
-    same-pair-through (ends-are p e .0) (rw (lower, higher) (ends-are p f .0)) in
+    pair-through (ends-are p e .0) (rw (lower, higher) (ends-are p f .0)) in
     let slots : SamePair (lowSlot e) (highSlot e) (lowSlot f) (highSlot f) =
     ⊎-elim
     (λ c. inl (d (lowSlot e) (lowSlot f) (slots-small e .0) (slots-small f .0) (c .0), d (highSlot e) (highSlot f) (slots-small e .1) (slots-small f .1) (c .1)))
@@ -61,15 +50,10 @@ edge-by-ends p d e f le lf lower higher =
     corners in
     ⊎-elim (λ no. absurd (no slots)) (λ same. same) (one-edge e le f lf)
 
--- Two pairs in rising order that are the same whichever way round are the same.
-in-order : {x y a b : ℕ} → SamePair x y a b → x ≤ y → a ≤ b → (x ≡ a) × (y ≡ b)
-in-order (inl h) l k = h
-in-order (inr h) l k = let x = h .0 in let y = h .1 in (omega arith, omega arith)
-
 -- Edges with the same two corners have the same ends, whatever their pieces and slots.
 pub ends-same : (p q : Piece) (e f : ℕ) → SamePair (cornerAt p (lowSlot e)) (cornerAt p (highSlot e)) (cornerAt q (lowSlot f)) (cornerAt q (highSlot f)) → endsOf p e ≡ endsOf q f
 ends-same p q e f corners =
     let a = ends-are p e in
     let b = ends-are q f in
-    let both = in-order (same-pair-through (same-pair-through corners (turned (a .0))) (turned (b .0))) (a .1) (b .1) in
+    let both = pair-in-order (pair-through (pair-through corners (pair-turned (a .0))) (pair-turned (b .0))) (a .1) (b .1) in
     λ i. record { lower = both .0 i; higher = both .1 i }

@@ -15,7 +15,7 @@ use Rattle.stored.specs.Layout.{none, recordIn, recordFrom}
 use Rattle.check_refusals.specs.Tables.{Tables, tablesOf, baseVertices, allVertices, baseRecords, allRecords, pieceAt, isCut, hasParents, vertexWith, hangs, refinementEnds}
 use Rattle.check_refusals.specs.Refusals.{badChildren, badCut, isChildOf, notChildOfOne, tooDeep, badRecord, isMidpointOf, noMidpoint, badCuts, hangsAt, leafHangs, hangingEdge}
 use Rattle.check_meaning.specs.Tests.{Passes, Fails, reads, equal, at-most, not-at-most, not-below, not-fails, not-passes, fails-unless, and-passes, and-fails, or-passes, or-fails, any-passes, none-passes, first-passes}
-use Rattle.check_meaning.specs.Accepted.{Made, HasParents, RightVertices, Cut, firstChild, RightCut, ChildOf, ExactlyOne, RightCuts, NoneHangs}
+use Rattle.check_meaning.specs.Accepted.{Made, HasParents, RightVertices, Leaf, Cut, firstChild, RightCut, ChildOf, ExactlyOne, RightCuts, NoneHangs}
 use Rattle.check_meaning.specs.Counting.{one-counted}
 use Rattle.check_meaning.specs.Vertices.{parents-are}
 
@@ -54,8 +54,11 @@ module _ (m : Tables) where
       let (b, g) = parents-are m ends (vertexWith m ends) .0 t in
       v .one-pair (vertexWith m ends) w (record { beyond = b; there = l }) d (g .p ∙ sym (h .p)) (g .q ∙ sym (h .q))
 
-  is-cut : (n : ℕ) → Passes (isCut m n) (Cut m n)
+  pub is-cut : (n : ℕ) → Passes (isCut m n) (Cut m n)
   is-cut n = not-passes (fails-unless (equal (firstChild m n) none))
+
+  pub is-leaf : (n : ℕ) → Fails (isCut m n) (Leaf m n)
+  is-leaf n = not-fails (equal (firstChild m n) none)
 
   pub child-of : (c n : ℕ) → Passes (isChildOf (m .recordAt n) c) (ChildOf m c n)
   unfolding isChildOf

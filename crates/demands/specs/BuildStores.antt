@@ -7,10 +7,10 @@ use mathlib.Core.List.{List, [], _∷_}
 use Prim.Native.Nat.{ℕ, _+_, _*_, _-_, _<_}
 use native.Mathlib.Nat.{le-refl}
 use native.Mathlib.Omega.{arith}
-use lib.ListN.{length, getD}
+use lib.ListN.{getD}
 use lib.IntN.{ℤ}
 use borrow.Author.Tests.{lt-ltb}
-use Rattle.laws.specs.Below.{fold-same, listBelow}
+use Rattle.laws.specs.Below.{list-same}
 use Rattle.laws.specs.Pairs.{SamePair}
 use Rattle.piece_edges.specs.Edges.{lowSlot, highSlot, slots-small}
 use Rattle.piece.specs.Shape.{shapeOf, mark}
@@ -181,11 +181,6 @@ module _ (coordinates : List ℤ) (corners : List ℕ) where
         };
         «first_child» = none;
       }
-
-  -- A list goes by the values below its length.
-  list-same : {A : Type 0} (n : ℕ) (f g : ℕ → A) → ((k : ℕ) → k < n → f k ≡ g k) → listBelow n f ≡ listBelow n g
-  unfolding listBelow
-  list-same n f g h = fold-same [] _ n f g h
 
   mesh-same : (job : ℕ) → plainMesh job coordinates corners ≡ written job 0 b plainNumbers
   unfolding plainMesh plainHeader

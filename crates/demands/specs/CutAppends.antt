@@ -7,7 +7,7 @@ use Prim.Native.Nat.{ℕ, suc, _+_, _≤_, _<_}
 use native.Mathlib.Omega.{arith}
 use lib.Dec.{eqb}
 use borrow.Author.Tests.{eqb-true, eqb-false, eq-eqb, ne-eqb}
-use Rattle.laws.specs.Below.{either, putAt, anyBelow, any-fails-at, first-where, first-no}
+use Rattle.laws.specs.Below.{either, putAt, anyBelow, any-fails-at, first-where, first-no, put-same, put-other}
 use Rattle.cuts_names.specs.Lists.{both-ways}
 use Rattle.piece.specs.declared.Piece.{Piece}
 use Rattle.piece.specs.declared.Ends.{Ends}
@@ -24,7 +24,7 @@ use Rattle.check_meaning.specs.Vertices.{parents-are}
 use Rattle.check_meaning.specs.Cuts.{Four, cut-four}
 use Rattle.check_meaning.specs.Descent.{child-corner, lower-is-end, higher-is-end}
 use Rattle.refine_cut.specs.Cut.{midpointOf, oneVertexMore, withMidpoint, cutRecord, leafRecord, withChildren, cutAt}
-use Rattle.refine_pass.specs.Law.{other-number, midpoint-keeps, cut-record-count, cut-vertices-stay, cut-records-stay}
+use Rattle.refine_pass.specs.Law.{midpoint-keeps, cut-record-count, cut-vertices-stay, cut-records-stay}
 use Rattle.cuts.specs.Tables.{Lawful, Midpoint, ChildOf, OldVertex, NewVertex, Appended, lowerEnd, higherEnd}
 use Rattle.cuts.specs.LinkNames.{base-or-beyond}
 use Rattle.cuts.specs.LinkNodes.{linked}
@@ -33,9 +33,6 @@ use Rattle.demands.specs.Link.{link}
 -- Vertex v stands at half the sum of its parents' places, rounded down.
 abbrev pub Halfway : Check.Tables → ℕ → Type 0
 Halfway m v = m .vertexAt v .place ≡ halfwayOf (m .vertexAt (m .vertexAt v .p) .place) (m .vertexAt (m .vertexAt v .q) .place)
-
-same-number : {A : Type 0} (i : ℕ) (x : A) (f : ℕ → A) → putAt i x f i ≡ x
-same-number i x f = rw (eq-eqb i i refl)
 
 -- ---- the tables after a cut, number by number
 
@@ -63,7 +60,7 @@ module _ (m : Check.Tables) (n : ℕ) where
   pub vertex-appended : cutVertex ≡ allVertices m → (allVertices (cutAt m n) ≡ suc (allVertices m)) × (cutAt m n .vertexAt (allVertices m) ≡ midpointOf (m .vertexAt) cutEnds)
   unfolding cutAt withChildren withMidpoint
   vertex-appended e =
-      rw (eq-eqb cutVertex (allVertices m) e) (omega arith, same-number (allVertices m) (midpointOf (m .vertexAt) cutEnds) (m .vertexAt))
+      rw (eq-eqb cutVertex (allVertices m) e) (omega arith, put-same (allVertices m) (midpointOf (m .vertexAt) cutEnds) (m .vertexAt))
 
   -- Where one has it, none is appended.
   pub vertex-used : cutVertex ≢ allVertices m → allVertices (cutAt m n) ≡ allVertices m
@@ -86,8 +83,8 @@ module _ (m : Check.Tables) (n : ℕ) where
   first-record =
       let count : allRecords half ≡ allRecords m = midpoint-keeps m n .1 in
       ap (cutAt m n .recordAt) (sym count)
-      ∙ other-number (allRecords half + 1) (allRecords half) (leafRecord (cutOf (pieceAt half n) cutVertex .second)) with-first (λ e. omega arith)
-      ∙ same-number (allRecords half) (leafRecord (cutOf (pieceAt half n) cutVertex .first)) marked-cut
+      ∙ put-other (allRecords half + 1) (allRecords half) (leafRecord (cutOf (pieceAt half n) cutVertex .second)) with-first (λ e. omega arith)
+      ∙ put-same (allRecords half) (leafRecord (cutOf (pieceAt half n) cutVertex .first)) marked-cut
       ∙ ap (λ (f : ℕ → Record). leafRecord (cutOf (f n .piece) cutVertex .first)) (midpoint-keeps m n .0)
 
   pub second-record : cutAt m n .recordAt (suc (allRecords m)) ≡ leafRecord (cutOf (pieceAt m n) cutVertex .second)
@@ -95,7 +92,7 @@ module _ (m : Check.Tables) (n : ℕ) where
   second-record =
       let number : suc (allRecords m) ≡ allRecords half + 1 = omega (arith, midpoint-keeps m n .1) in
       ap (cutAt m n .recordAt) number
-      ∙ same-number (allRecords half + 1) (leafRecord (cutOf (pieceAt half n) cutVertex .second)) with-first
+      ∙ put-same (allRecords half + 1) (leafRecord (cutOf (pieceAt half n) cutVertex .second)) with-first
       ∙ ap (λ (f : ℕ → Record). leafRecord (cutOf (f n .piece) cutVertex .second)) (midpoint-keeps m n .0)
 
   module _ (there : n < allRecords m) where
@@ -104,9 +101,9 @@ module _ (m : Check.Tables) (n : ℕ) where
     unfolding cutAt withChildren
     cut-record =
         let count : allRecords half ≡ allRecords m = midpoint-keeps m n .1 in
-        other-number (allRecords half + 1) n (leafRecord (cutOf (pieceAt half n) cutVertex .second)) with-first (λ e. omega arith)
-        ∙ other-number (allRecords half) n (leafRecord (cutOf (pieceAt half n) cutVertex .first)) marked-cut (λ e. omega arith)
-        ∙ same-number n (cutRecord (pieceAt half n) (allRecords half)) (half .recordAt)
+        put-other (allRecords half + 1) n (leafRecord (cutOf (pieceAt half n) cutVertex .second)) with-first (λ e. omega arith)
+        ∙ put-other (allRecords half) n (leafRecord (cutOf (pieceAt half n) cutVertex .first)) marked-cut (λ e. omega arith)
+        ∙ put-same n (cutRecord (pieceAt half n) (allRecords half)) (half .recordAt)
         ∙ ap₂ (λ (f : ℕ → Record) (k : ℕ). cutRecord (f n .piece) k) (midpoint-keeps m n .0) count
 
     -- So it is cut: the first child's number is not the one for none.

@@ -6,7 +6,7 @@ use mathlib.Core.List.{[], _∷_}
 use Prim.Native.Nat.{ℕ, _<_}
 use lib.Dec.{ltb}
 use borrow.Author.Tests.{ltb-true}
-use Rattle.laws.specs.Below.{either, fold-same, listBelow}
+use Rattle.laws.specs.Below.{either, listBelow, list-same}
 use Rattle.laws.specs.Lists.{four-of}
 use Rattle.piece.specs.Shape.{mark}
 use Rattle.piece.specs.Ends.{cornerAt}
@@ -73,11 +73,6 @@ module _ (m : Check.Tables) (b : BaseMesh) (D : Cuts (b .pieces)) (g : Grown (na
       }
 
 -- ---- the whole mesh
-
--- A list goes by the values below its length.
-list-same : {A : Type 0} (n : ℕ) (f g : ℕ → A) → ((k : ℕ) → k < n → f k ≡ g k) → listBelow n f ≡ listBelow n g
-unfolding listBelow
-list-same n f g h = fold-same [] _ n f g h
 
 -- The tables as a mesh, for a job and a round.
 abbrev pub meshFor : ℕ → ℕ → Check.Tables → Mesh

@@ -8,7 +8,7 @@ use native.Mathlib.Omega.{arith}
 use lib.Seq.{ext-getD}
 use lib.Dec.{ltb, eqb}
 use Rattle.laws.specs.Below.{either}
-use Rattle.laws.specs.Pairs.{SamePair}
+use Rattle.laws.specs.Pairs.{SamePair, pair-through, pair-turned, pair-in-order}
 use Rattle.piece.specs.declared.Piece as Declared
 use Rattle.piece_edges.specs.Edges.{lowSlot, highSlot, slots-small}
 use Rattle.piece.specs.Shape.{Shape, shapeOf, slotA, slotB}
@@ -34,13 +34,6 @@ use Rattle.demands.specs.Stored.{Shallow, Numbers, VerticesNumbered, Rec
 use Rattle.demands.specs.MarkedBase.{pair-mid}
 use Rattle.demands.specs.Holds.{Holds}
 use Rattle.demands.specs.HeldEntries.{parents-at, made-beyond, beyond-made, corner-at, generation-at, first-at, shape-at}
-
--- Two pairs that are the same as a third, both in rising order, are the same.
-in-order : {p q l h c d : ℕ} → SamePair p q c d → SamePair l h c d → p ≤ q → l ≤ h → (p ≡ l) × (q ≡ h)
-in-order (inl e) (inl f) m n = omega arith
-in-order (inl e) (inr f) m n = omega arith
-in-order (inr e) (inl f) m n = omega arith
-in-order (inr e) (inr f) m n = omega arith
 
 -- Two pieces with four corners each, the same ones, with one shape and one generation are one.
 one-piece : (p q : Declared.Piece) → Four p → Four q → ((j : ℕ) → j < 4 → cornerAt p j ≡ cornerAt q j) → shapeOf p ≡ shapeOf q → p .generation ≡ q .generation → p ≡ q
@@ -121,7 +114,7 @@ module _ (t : Tables) (b : BaseMesh) (C : Cuts (b .pieces)) (N : Numbers) (h : H
         (λ s. inr (nv .once _ _ lp lc (s .0), nv .once _ _ lq la (s .1)))
         (mid-injective (N .nameAt (N .pAt v)) (N .nameAt (N .qAt v)) (N .nameAt a) (N .nameAt c) (sym (m .name) ∙ q ∙ sym (edge-name r lr e))) in
         let ends = ends-are (held r) e in
-        let both = in-order numbers (ends .0) (omega (arith, m .p<q)) (ends .1) in
+        let both = pair-in-order (pair-through (pair-turned numbers) (pair-turned (ends .0))) (omega (arith, m .p<q)) (ends .1) in
         record { p = p-is ∙ both .0; q = q-is ∙ both .1 }
 
     -- A made vertex that has an edge's ends as parents is named its midpoint.

@@ -8,21 +8,19 @@ use native.Mathlib.Omega.{arith}
 use lib.Dec.{eqb}
 use borrow.Author.Tests.{eqb-true, eqb-false}
 use Rattle.laws.specs.Below.{either}
-use Rattle.laws.specs.Pairs.{SamePair}
+use Rattle.laws.specs.Pairs.{SamePair, pair-through, pair-turned}
 use Rattle.piece.specs.declared.Piece.{Piece}
 use Rattle.piece_edges.specs.Edges.{lowSlot, highSlot}
 use Rattle.piece.specs.Shape.{shapeOf, mark}
 use Rattle.piece.specs.Ends as Ends
 use Rattle.piece.specs.Ends.{cornerAt, endsOf}
 use Rattle.piece_cut.specs.Cut.{childOf, cutOf}
-use Rattle.stored.specs.Layout.{none}
 use Rattle.check_refusals.specs.Tables as Check
-use Rattle.check_refusals.specs.Tables.{baseRecords, allRecords, pieceAt, isCut, refinementEnds}
-use Rattle.check_meaning.specs.Tests.{Passes, Fails, equal, fails-unless, not-passes, not-fails}
+use Rattle.check_refusals.specs.Tables.{baseRecords, allRecords, pieceAt, refinementEnds}
 use Rattle.check_meaning.specs.Accepted as Accepted
-use Rattle.check_meaning.specs.Accepted.{RightMesh, RightCut, HasParents, SameFace, Leaf, Cut, firstChild}
+use Rattle.check_meaning.specs.Accepted.{RightMesh, RightCut, HasParents, SameFace, firstChild}
 use Rattle.check_meaning.specs.Bases.{marks-valid}
-use Rattle.check_meaning.specs.Cuts.{Four}
+use Rattle.check_meaning.specs.Cuts.{Four, is-cut}
 use Rattle.check_meaning.specs.Descent.{lower-is-end, higher-is-end, child-corner}
 use Rattle.build_meaning.specs.Edges.{Different, ends-are}
 use Rattle.cuts.specs.Tables.{lowerEnd, higherEnd, Midpoint, ChildOf, ProperlyCut, IsChild, SameEdge, Lawful}
@@ -36,13 +34,6 @@ which-first : (r s : ℕ) → (r < s) ⊎ ((s ≡ r) ⊎ (s < r))
 which-first r s = ⊎-elim inl (λ l. inr (eq-or-lt-of-le l)) (base-or-beyond r s)
 
 -- ---- pairs of ends
-
--- The same pair as a third, whichever way round.
-pair-through : {x y a b c d : ℕ} → SamePair x y a b → SamePair x y c d → SamePair a b c d
-pair-through (inl h) (inl k) = inl (sym (h .0) ∙ k .0, sym (h .1) ∙ k .1)
-pair-through (inl h) (inr k) = inr (sym (h .0) ∙ k .0, sym (h .1) ∙ k .1)
-pair-through (inr h) (inl k) = inr (sym (h .1) ∙ k .1, sym (h .0) ∙ k .0)
-pair-through (inr h) (inr k) = inl (sym (h .1) ∙ k .1, sym (h .0) ∙ k .0)
 
 -- Edges with the same lower and the same higher end have the same two corners.
 pub ends-pair : (p q : Piece) (e f : ℕ) → endsOf p e ≡ endsOf q f → SamePair (cornerAt p (lowSlot e)) (cornerAt p (highSlot e)) (cornerAt q (lowSlot f)) (cornerAt q (highSlot f))
@@ -58,14 +49,6 @@ face-once p different i j l same =
 -- ---- one cut
 
 module _ (m : Check.Tables) where
-  -- The test for a cut record.
-  pub is-cut : (n : ℕ) → Passes (isCut m n) (Cut m n)
-  is-cut n = not-passes (fails-unless (equal (firstChild m n) none))
-
-  -- The same test, of a leaf.
-  pub is-leaf : (n : ℕ) → Fails (isCut m n) (Leaf m n)
-  is-leaf n = not-fails (equal (firstChild m n) none)
-
   -- A vertex that has the ends of a record's refinement edge as parents is its midpoint.
   midpoint : (w n : ℕ) → Accepted.Made m w → HasParents m (refinementEnds (pieceAt m n)) w → Midpoint (link m) w n
   unfolding endsOf Ends.lowerEnd Ends.higherEnd lowerEnd higherEnd
@@ -100,12 +83,12 @@ module _ (m : Check.Tables) where
   is-child c n l h =
       record {
         inside = l;
-        cut = is-cut n .1 (h .cut);
+        cut = is-cut m n .1 (h .cut);
         which = ⊎-elim (λ e. inl (sym e)) (λ e. inr (omega arith)) (h .is);
       }
 
   child-of : (c n : ℕ) → IsChild (link m) n c → Accepted.ChildOf m c n
-  child-of c n h = record { cut = is-cut n .0 (h .cut); is = ⊎-elim (λ e. inl (sym e)) (λ e. inr (omega arith)) (h .which) }
+  child-of c n h = record { cut = is-cut m n .0 (h .cut); is = ⊎-elim (λ e. inl (sym e)) (λ e. inr (omega arith)) (h .which) }
 
 -- ---- all laws
 
@@ -155,5 +138,5 @@ accepted-lawful m a four =
         (⊎-elim
         (λ e.
         subst (λ (n : ℕ). SameFace (pieceAt m n) i (pieceAt m s) j → SameEdge (link m) n (mark (shapeOf (pieceAt m n)) i) s (mark (shapeOf (pieceAt m s)) j)) e (alone s hs i j hi) same)
-        (λ l. pair-through (ordered s r l hr j i hj hi (λ x. (same x .1, same x .0))) (inl (refl, refl))))
+        (λ l. pair-turned (ordered s r l hr j i hj hi (λ x. (same x .1, same x .0)))))
         (which-first r s)

@@ -20,7 +20,7 @@ use Rattle.cuts.specs.LinkGrown.{Grown}
 use Rattle.demands.specs.BaseMesh.{BaseMesh, named}
 use Rattle.demands.specs.Stored.{MadeVertex, VerticesNumbered, firstSide, secondSide, CutRecord, RecordsNumbered}
 use Rattle.demands.specs.Link.{link}
-use Rattle.demands.specs.Lawful.{is-leaf}
+use Rattle.check_meaning.specs.Cuts.{is-leaf}
 use Rattle.demands.specs.BaseOf.{numbersOf, node-makes, record-alike}
 
 module _ (m : Check.Tables) (b : BaseMesh) (D : Cuts (b .pieces)) (g : Grown (named b) (link m) D) (base-vertices : baseVertices m ≡ b .vertices) where

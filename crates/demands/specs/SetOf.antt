@@ -27,7 +27,7 @@ use Rattle.cuts.specs.LinkGrown.{Grown, grown-rests}
 use Rattle.demands.specs.BaseMesh.{BaseMesh, named}
 use Rattle.demands.specs.Stored.{Fits, Shallow}
 use Rattle.demands.specs.Link.{link}
-use Rattle.demands.specs.Lawful.{is-leaf}
+use Rattle.check_meaning.specs.Cuts.{is-leaf}
 use Rattle.demands.specs.BaseOf.{node-makes}
 
 -- A vertex whose parents are the two ends of an edge, whichever way round, has the lower for p and the higher for q.

@@ -9,7 +9,7 @@ use mathlib.Core.List.{List, [], _∷_, _++_}
 use lib.ListN.{length, getD, length-append, List·getD-append}
 use lib.Seq.{getD-at, ext-getD}
 use lib.Dec.{ltb, eqb}
-use borrow.Author.Tests.{lt-ltb, le-ltb, eqb-true, eqb-false}
+use borrow.Author.Tests.{lt-ltb, le-ltb, eqb-true, eqb-false, eq-eqb, ne-eqb}
 use native.Mathlib.Numerals.{add-one}
 use native.Mathlib.Omega.{arith}
 
@@ -321,6 +321,10 @@ unfoldable pub listBelow {ℓ} : {A : Type ℓ} → ℕ → (ℕ → A) → List
 unfolding foldBelow
 listBelow n f = foldBelow [] (λ l x. l ++ x ∷ []) n f
 
+pub list-same {ℓ} : {A : Type ℓ} (n : ℕ) (f g : ℕ → A) → ((k : ℕ) → k < n → f k ≡ g k) → listBelow n f ≡ listBelow n g
+unfolding listBelow
+list-same n f g h = fold-same [] (λ l x. l ++ x ∷ []) n f g h
+
 module _ {ℓ} {A : Type ℓ} (f : ℕ → A) where
   pub list-none : listBelow 0 f ≡ []
   unfolding listBelow
@@ -351,6 +355,12 @@ module _ {ℓ} {A : Type ℓ} (f : ℕ → A) where
 
 abbrev pub putAt {ℓ} : {A : Type ℓ} → ℕ → A → (ℕ → A) → ℕ → A
 putAt i x f j = let other = f j in cond (eqb j i) x other
+
+pub put-same {ℓ} : {A : Type ℓ} (i : ℕ) (x : A) (f : ℕ → A) → putAt i x f i ≡ x
+put-same i x f = rw (eq-eqb i i refl)
+
+pub put-other {ℓ} : {A : Type ℓ} (i j : ℕ) (x : A) (f : ℕ → A) → j ≢ i → putAt i x f j ≡ f j
+put-other i j x f ne = rw (ne-eqb j i ne)
 
 pub put-is {ℓ} : {A : Type ℓ} (i : ℕ) (x : A) (f g : ℕ → A) → g i ≡ x → ((j : ℕ) → j ≢ i → g j ≡ f j) → g ≡ putAt i x f
 put-is i x f g here other = λ k j. at j k

@@ -7,8 +7,8 @@ use Prim.Native.Nat.{ℕ, zero, suc, _+_, _≤_, _<_}
 use native.Mathlib.Nat.{le-refl}
 use native.Mathlib.Omega.{arith}
 use lib.Dec.{eqb}
-use borrow.Author.Tests.{eqb-true, eqb-false, eq-eqb, ne-eqb}
-use Rattle.laws.specs.Below.{either, putAt, anyBelow, any-none, any-fails, any-fails-at}
+use borrow.Author.Tests.{eqb-true, eqb-false, ne-eqb}
+use Rattle.laws.specs.Below.{either, putAt, anyBelow, any-none, any-fails, any-fails-at, put-same, put-other}
 use Rattle.piece_cut.specs.Cut.{cutOf}
 use Rattle.stored.specs.declared.Limits.{Limits}
 use Rattle.stored.specs.declared.Record.{Record}
@@ -20,7 +20,7 @@ use Rattle.stored.specs.Layout.{headerOf}
 use Rattle.refine_selection.specs.Selected.{namesCut, isNamed}
 use Rattle.refine_cut.specs.Cut.{withMidpoint, withChildren, cutRecord, leafRecord, cutAt}
 use Rattle.refine_pass.specs.Passes.{exceeds, turn, passBelow, pass, closing, refined}
-use Rattle.refine_pass.specs.Law.{other-number, midpoint-keeps, cut-record-count, cut-vertex-count, cut-vertices-stay, cut-records-stay}
+use Rattle.refine_pass.specs.Law.{midpoint-keeps, cut-record-count, cut-vertex-count, cut-vertices-stay, cut-records-stay}
 use Rattle.refine_service.specs.Refine.{closed}
 
 -- ---- vertices and pieces stay
@@ -57,10 +57,10 @@ module _ (m : Tables) (n : ℕ) (there : n < allRecords m) where
       let first : ℕ = allRecords half in
       let cut : ℕ → Record = putAt n (cutRecord (pieceAt half n) first) (half .recordAt) in
       let one : ℕ → Record = putAt first (leafRecord (cutOf (pieceAt half n) w .first)) cut in
-      let self : putAt n (cutRecord (pieceAt half n) first) (half .recordAt) n ≡ cutRecord (pieceAt half n) first = rw (eq-eqb n n refl) in
+      let self : putAt n (cutRecord (pieceAt half n) first) (half .recordAt) n ≡ cutRecord (pieceAt half n) first = put-same n (cutRecord (pieceAt half n) first) (half .recordAt) in
       ap (λ (r : Record). r .piece)
-      (other-number (first + 1) n (leafRecord (cutOf (pieceAt half n) w .second)) one (λ e. omega arith)
-      ∙ other-number first n (leafRecord (cutOf (pieceAt half n) w .first)) cut (λ e. omega arith)
+      (put-other (first + 1) n (leafRecord (cutOf (pieceAt half n) w .second)) one (λ e. omega arith)
+      ∙ put-other first n (leafRecord (cutOf (pieceAt half n) w .first)) cut (λ e. omega arith)
       ∙ self)
       ∙ (λ i. midpoint-keeps m n .0 i n .piece)
 

@@ -6,8 +6,8 @@ use Prim.Native.Nat.{ℕ, zero, suc, _+_, _≤_, _<_}
 use native.Mathlib.Nat.{le-refl}
 use native.Mathlib.Omega.{arith}
 use lib.Dec.{eqb, ltb}
-use borrow.Author.Tests.{ne-eqb, ltb-false}
-use Rattle.laws.specs.Below.{or-left-false, or-right-false, putAt, any-same}
+use borrow.Author.Tests.{ltb-false}
+use Rattle.laws.specs.Below.{or-left-false, or-right-false, putAt, any-same, put-other}
 use Rattle.laws.specs.Lists.{Bytes}
 use Rattle.piece.specs.declared.Ends.{Ends}
 use Rattle.piece.specs.Ends.{endsOf}
@@ -29,9 +29,6 @@ use Rattle.refine_pass.specs.Puts.{turnPut, turnsPut, passPut, hangsSinc
 
 -- ---- what a cut leaves as it was
 
-pub other-number : {A : Type 0} (i k : ℕ) (x : A) (f : ℕ → A) → k ≢ i → putAt i x f k ≡ f k
-other-number i k x f ne = rw (ne-eqb k i ne)
-
 module _ (m : Tables) (n : ℕ) where
   abbrev ends-n : Ends
   ends-n = refinementEnds (pieceAt m n)
@@ -45,7 +42,7 @@ module _ (m : Tables) (n : ℕ) where
       more = record { header = oneVertexMore (m .header); vertexAt = putAt (allVertices m) (midpointOf (m .vertexAt) ends-n) (m .vertexAt); recordAt = m .recordAt }
 
       go : (b : Bool) → (cond b more m .recordAt ≡ m .recordAt) × (allRecords (cond b more m) ≡ allRecords m) × (allVertices m ≤ allVertices (cond b more m)) × ((v : ℕ) → v < allVertices m → cond b more m .vertexAt v ≡ m .vertexAt v)
-      go true = (refl, refl, omega arith, λ v l. other-number (allVertices m) v (midpointOf (m .vertexAt) ends-n) (m .vertexAt) (λ e. omega arith))
+      go true = (refl, refl, omega arith, λ v l. put-other (allVertices m) v (midpointOf (m .vertexAt) ends-n) (m .vertexAt) (λ e. omega arith))
       go false = (refl, refl, le-refl (allVertices m), λ v l. refl)
 
   pub cut-record-count : allRecords (cutAt m n) ≡ allRecords m + 2
@@ -69,9 +66,9 @@ module _ (m : Tables) (n : ℕ) where
       let first : ℕ = allRecords half in
       let cut : ℕ → Record = putAt n (cutRecord (pieceAt half n) first) (half .recordAt) in
       let one : ℕ → Record = putAt first (leafRecord (cutOf (pieceAt half n) w .first)) cut in
-      other-number (first + 1) k (leafRecord (cutOf (pieceAt half n) w .second)) one (λ e. omega arith)
-      ∙ other-number first k (leafRecord (cutOf (pieceAt half n) w .first)) cut (λ e. omega arith)
-      ∙ other-number n k (cutRecord (pieceAt half n) first) (half .recordAt) ne
+      put-other (first + 1) k (leafRecord (cutOf (pieceAt half n) w .second)) one (λ e. omega arith)
+      ∙ put-other first k (leafRecord (cutOf (pieceAt half n) w .first)) cut (λ e. omega arith)
+      ∙ put-other n k (cutRecord (pieceAt half n) first) (half .recordAt) ne
       ∙ (λ i. midpoint-keeps .0 i k)
 
 -- ---- what the first n turns leave as it was
