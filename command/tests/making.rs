@@ -408,9 +408,9 @@ fn where_it_goes() {
         ),
         (
             "staged",
-            "/opt/two",
-            "staged/opt/two".to_string(),
-            "/opt/two".to_string(),
+            "/two",
+            "staged/two".to_string(),
+            "/two".to_string(),
         ),
         (
             "staged",
