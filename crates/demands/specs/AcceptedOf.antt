@@ -3,8 +3,9 @@
 use mathlib.Core.Path.{sym, ap, subst}
 use mathlib.Core.Bool.{not}
 use mathlib.Core.List.{List}
-use Prim.Native.Nat.{ℕ, _≤_, _<_}
+use Prim.Native.Nat.{ℕ, _≤_}
 use native.Mathlib.Omega.{arith}
+use Rattle.stored.specs.Fitting.{U16, U32}
 use Rattle.stored.specs.Layout.{none, limits, meshBytes}
 use Rattle.stored.specs.Meshes.{mesh-right-length, mesh-right-mark}
 use Rattle.check_refusals.specs.Tables.{Tables, tablesOf}
@@ -34,7 +35,7 @@ held-right t b C N h marked shallow nv nr few =
       cuts = held-cuts t b C N h marked shallow nv nr few;
     }
 
-module _ (job round : ℕ) (b : BaseMesh) (C : Cuts (b .pieces)) (right : RightSet b C) (N : Numbers) (nv : VerticesNumbered b C N) (nr : RecordsNumbered b C N) (job-fits : job < 4294967296) (round-fits : round < 65536) where
+module _ (job round : ℕ) (b : BaseMesh) (C : Cuts (b .pieces)) (right : RightSet b C) (N : Numbers) (nv : VerticesNumbered b C N) (nr : RecordsNumbered b C N) (job-fits : U32 job) (round-fits : U16 round) where
   -- The bytes of a numbered set of cuts are accepted.
   pub written-accepted : Accepted (meshBytes (written job round b N))
   unfolding wrongLength wrongMark

@@ -10,6 +10,7 @@ use native.Mathlib.Omega.{arith}
 use lib.ListN.{getD}
 use lib.IntN.{ℤ}
 use borrow.Author.Tests.{lt-ltb}
+use Rattle.stored.specs.Fitting.{U32}
 use Rattle.laws.specs.Below.{list-same}
 use Rattle.laws.specs.Pairs.{SamePair}
 use Rattle.piece_edges.specs.Edges.{lowSlot, highSlot, slots-small}
@@ -192,7 +193,7 @@ module _ (coordinates : List ℤ) (corners : List ℕ) where
         records = list-same (b .pieces) (plainRecord coordinates corners) (recordOf b plainNumbers) (λ r l. record-same r) i;
       }
 
-  pub plain-stores : (job : ℕ) → job < 4294967296 → RightPieces b → Stores (plainBytes job coordinates corners) job 0 b (no-cuts (b .pieces))
+  pub plain-stores : (job : ℕ) → U32 job → RightPieces b → Stores (plainBytes job coordinates corners) job 0 b (no-cuts (b .pieces))
   unfolding plainBytes
   plain-stores job small pieces =
       record {

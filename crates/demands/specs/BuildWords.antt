@@ -6,6 +6,7 @@ use Prim.Native.Nat.{ℕ, _-_, _≤_, _<_}
 use lib.ListN.{length, getD, replicate}
 use lib.IntN.{ℤ, pos, negsuc}
 use lib.Signed.{_≤ℤ_}
+use Rattle.stored.specs.Fitting.{U16, U32}
 use Rattle.cuts.specs.Sets.{Cuts}
 use Rattle.demands.specs.Stored.{Stores}
 use Rattle.demands.specs.StoredMesh.{RightSet}
@@ -18,9 +19,9 @@ pub record I16 (z : ℤ) : Type 0 where
 
 -- "Build takes a job number, i16 coordinates and u16 corners."
 pub record ArgumentTypes (job : ℕ) (coordinates : List ℤ) (corners : List ℕ) : Type 0 where
-  pub u32-job : job < 4294967296
+  pub u32-job : U32 job
   pub i16-coordinates : (k : ℕ) → k < length coordinates → I16 (getD coordinates k (pos 0))
-  pub u16-corners : (k : ℕ) → k < length corners → getD corners k 0 < 65536
+  pub u16-corners : (k : ℕ) → k < length corners → U16 (getD corners k 0)
 
 -- The set in which nothing is cut.
 abbrev pub no-cuts : (count : ℕ) → Cuts count

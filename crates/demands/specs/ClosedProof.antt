@@ -21,7 +21,7 @@ use Rattle.refine_meaning.specs.Answer.{refused-bytes, accepted-bytes}
 use Rattle.cuts_names.specs.Pieces.{Node, generation}
 use Rattle.cuts.specs.Sets.{Cuts}
 use Rattle.demands.specs.BaseMesh.{BaseMesh}
-use Rattle.demands.specs.Stored.{Fits}
+use Rattle.demands.specs.Stored.{Fits, fullSize}
 use Rattle.demands.specs.StoredMesh.{StoredMesh}
 use Rattle.demands.specs.Further.{GoodSelection, Selected, Closes, Refined, Closed}
 use Rattle.demands.specs.AcceptedOf.{accepted-of-stored}
@@ -43,7 +43,7 @@ beyond m e =
     (λ f. inr (ltb-true (limits .records) (allRecords m) (sym (ap (λ (c : Bool). c || ltb (limits .records) (allRecords m)) f) ∙ e)))
     (either (ltb (limits .vertices) (allVertices m)))
 
-module _ (s : List ℕ) (x : StoredMesh s) (selection : List ℕ) (good : GoodSelection (x .job) (x .round) (x .base) (x .cuts) (x .stores .numbers) selection) (room : ℕ) (full-size : 62484 ≤ room) where
+module _ (s : List ℕ) (x : StoredMesh s) (selection : List ℕ) (good : GoodSelection (x .job) (x .round) (x .base) (x .cuts) (x .stores .numbers) selection) (room : ℕ) (full-size : fullSize ≤ room) where
   abbrev b : BaseMesh
   b = x .base
 

@@ -5,6 +5,7 @@ use mathlib.Core.Bool.{Bool, true, false, not, cond, _&&_}
 use mathlib.Core.Logic.{inl, inr, ⊎-elim}
 use Prim.Native.Nat.{ℕ, zero, suc, _+_, _≤_, _<_}
 use native.Mathlib.Omega.{arith}
+use Rattle.piece.specs.Shape.{lastGeneration}
 use Rattle.laws.specs.Below.{either, any-where}
 use Rattle.cuts_names.specs.Lists.{both-ways}
 use Rattle.stored.specs.declared.Limits.{Limits}
@@ -23,7 +24,7 @@ use Rattle.cuts.specs.Tables.{nodeOf}
 use Rattle.cuts.specs.LinkGrown.{Grown, grown-rests}
 use Rattle.demands.specs.Link.{link}
 use Rattle.demands.specs.Hanging.{leaf-hangs, none-hangs}
-use Rattle.demands.specs.PassStages.{Start, Selected, UpTo15, Selectable, Stage, stage-start, stage-below, Later, later-itself, later-then, Turned, May, pass-turned}
+use Rattle.demands.specs.PassStages.{Start, Selected, UpToLast, Selectable, Stage, stage-start, stage-below, Later, later-itself, later-then, Turned, May, pass-turned}
 
 -- ---- the later passes
 
@@ -46,7 +47,7 @@ record Closed (m : Check.Tables) (start : Start m) (chosen : ℕ → Bool) (most
 hanging-may : (m : Check.Tables) (chosen : ℕ → Bool) (t : Check.Tables) → May m chosen t (leafHangs t)
 hanging-may m chosen t n l h = let (u, x) = leaf-hangs t n h in (u, inr x)
 
-module _ (most : Limits) (room : most .records < none) (m : Check.Tables) (start : Start m) (shallow : UpTo15 m) (chosen : ℕ → Bool) (leaf : Selectable m chosen) where
+module _ (most : Limits) (room : most .records < none) (m : Check.Tables) (start : Start m) (shallow : UpToLast m) (chosen : ℕ → Bool) (leaf : Selectable m chosen) where
   -- Where there are no more passes, the tables exceed their limits or have no hanging edge.
   closed-out : (t : Check.Tables) (D : Cuts (start .count)) → Stage m start chosen t D → Enough most 0 t → Closed m start chosen most t D t
   closed-out t D st enough =
@@ -102,7 +103,7 @@ pub record Outcome (most : Limits) (m : Check.Tables) (start : Start m) (chosen 
   pub selected : exceeds most (m′ .header) ≡ false → (n : ℕ) → chosen n ≡ true → set .has (nodeOf (link m) n) ≡ true
   pub rests : exceeds most (m′ .header) ≡ false → NoneHangs (start .base) set
   -- all cuts have generations below 15
-  pub below : CutsBelow 15 set
+  pub below : CutsBelow lastGeneration set
   pub four : (n : ℕ) → n < allRecords m′ → Four (pieceAt m′ n)
   -- a vertex that was made stands at half the sum of its parents' places, rounded down
   pub halfway : (v : ℕ) → allVertices m ≤ v → v < allVertices m′ → m′ .vertexAt v .place ≡ halfwayOf (m′ .vertexAt (m′ .vertexAt v .p) .place) (m′ .vertexAt (m′ .vertexAt v .q) .place)
@@ -110,7 +111,7 @@ pub record Outcome (most : Limits) (m : Check.Tables) (start : Start m) (chosen 
   pub records : allRecords m ≤ allRecords m′
   pub nodes : (n : ℕ) → n < allRecords m → nodeOf (link m′) n ≡ nodeOf (link m) n
 
-module _ (most : Limits) (room : most .records < none) (m : Check.Tables) (start : Start m) (four : (n : ℕ) → Four (pieceAt m n)) (shallow : UpTo15 m) (chosen : ℕ → Bool) (leaf : Selectable m chosen) where
+module _ (most : Limits) (room : most .records < none) (m : Check.Tables) (start : Start m) (four : (n : ℕ) → Four (pieceAt m n)) (shallow : UpToLast m) (chosen : ℕ → Bool) (leaf : Selectable m chosen) where
   abbrev one : Check.Tables
   one = pass most chosen m
 

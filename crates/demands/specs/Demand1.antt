@@ -15,6 +15,7 @@ use mathlib.Core.List.{List, [], _∷_, _++_}
 use Prim.Native.Nat.{ℕ, _-_, _≤_, _<_}
 use lib.ListN.{length, getD, replicate}
 use lib.IntN.{ℤ}
+use Rattle.check_refusals.specs.Tables.{tablesOf}
 use Rattle.laws.specs.Lists.{Bytes}
 use Rattle.stored.specs.Layout.{limits, meshLength, headerOf, Mesh, meshBytes}
 use Rattle.check_refusals.specs.Check.{checkNumber, checkOf}
@@ -23,10 +24,10 @@ use Rattle.build_meaning.specs.Written.{Given}
 use Rattle.build_meaning.specs.Output as Build
 use Rattle.refine_service.specs.Refine.{closed, resultOf, refineNumber, refineBytes}
 use Rattle.refine_meaning.specs.Answer as Refine
-use Rattle.list_lines.specs.Lines.{refusedLine}
-use Rattle.list_meaning.specs.Listing.{linesOf}
+use Rattle.list_lines.specs.Lines.{refusedLine, lineRoom}
+use Rattle.list_meaning.specs.Listing.{linesOf, meshLines}
 use Rattle.list_meaning.specs.Longest.{no-line-longer}
-use Rattle.demands.specs.Outcomes.{zero-or-not, check-number, refused-figures, no-hanging-edge, accepted-length, build-number, built-vertices, built-records, built-as-long, built-few, built-within, built-bytes, built-header, built-checked, refine-refused, refine-length, refined-vertices, refined-records, refined-as-long, refined-few, refined-within, refined-header, too-long-line, refused-line, line-ends}
+use Rattle.demands.specs.Outcomes.{zero-or-not, check-number, refused-figures, no-hanging-edge, accepted-length, build-number, built-vertices, built-records, built-as-long, built-few, built-within, built-bytes, built-header, built-checked, refine-refused, refine-length, refined-vertices, refined-records, refined-as-long, refined-few, refined-within, refined-header, too-long-line, refused-line, accepted-lines, line-ends}
 
 -- ---- one outcome
 
@@ -112,11 +113,13 @@ pub record ListingOutcome (s : List ℕ) : Type 0 where
   pub too-long : meshLength (limits .vertices) (limits .records) < length s → linesOf s ≡ refusedLine 1 ∷ []
   -- What check refuses is refused with its number, in one line.
   pub refused : length s ≤ meshLength (limits .vertices) (limits .records) → checkOf s .number ≢ 0 → linesOf s ≡ refusedLine (checkOf s .number) ∷ []
+  -- What check accepts is listed: "one heading line [..], then each leaf in rising record number".
+  pub accepted : length s ≤ meshLength (limits .vertices) (limits .records) → checkOf s .number ≡ 0 → linesOf s ≡ meshLines (tablesOf s) (checkOf s)
   -- "Every line ends with a line feed", whose byte is 10.
   pub line-feed : (k : ℕ) → k < length (linesOf s) → (text : List ℕ) × (getD (linesOf s) k [] ≡ text ++ 10 ∷ [])
   -- "Each line is set in a 128-byte line buffer": none is longer. `Bytes` says that the elements of the byte string are bytes, as those of a `&[u8]`
   -- are; without it a number might have more digits.
-  pub at-most-128 : Bytes s → (k : ℕ) → length (getD (linesOf s) k []) ≤ 128
+  pub at-most-128 : Bytes s → (k : ℕ) → length (getD (linesOf s) k []) ≤ lineRoom
 
 -- ---- the theorems
 
@@ -182,4 +185,4 @@ refine-outcome mesh selection room =
 
 -- Every byte string has one of the listing's.
 pub listing-outcome : (s : List ℕ) → ListingOutcome s
-listing-outcome s = record { too-long = too-long-line s; refused = refused-line s; line-feed = line-ends s; at-most-128 = no-line-longer s }
+listing-outcome s = record { too-long = too-long-line s; refused = refused-line s; accepted = accepted-lines s; line-feed = line-ends s; at-most-128 = no-line-longer s }

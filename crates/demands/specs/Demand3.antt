@@ -8,6 +8,7 @@ use mathlib.Core.Path.{_≡_}
 use mathlib.Core.Logic.{_↔_}
 use mathlib.Core.List.{List}
 use Prim.Native.Nat.{ℕ, suc, _+_, _*_, _/_, _≤_, _<_, max}
+use Rattle.demands.specs.Stored.{fullSize}
 use Rattle.stored.specs.Layout.{headerOf}
 use Rattle.cuts_names.specs.Pieces.{Node, generation}
 use Rattle.cuts.specs.Sets.{Cuts}
@@ -18,7 +19,7 @@ use Rattle.demands.specs.Services.{check, refine, refineOut}
 use Rattle.demands.specs.ClosedProof.{closed-proof, result-accepted, used-refused, earned, least-multiple}
 
 -- The demand, for every stored mesh, every good selection and every full-size buffer.
-pub demand-3 : (s : List ℕ) (x : StoredMesh s) (selection : List ℕ) → GoodSelection (x .job) (x .round) (x .base) (x .cuts) (x .stores .numbers) selection → (room : ℕ) → 62484 ≤ room →
+pub demand-3 : (s : List ℕ) (x : StoredMesh s) (selection : List ℕ) → GoodSelection (x .job) (x .round) (x .base) (x .cuts) (x .stores .numbers) selection → (room : ℕ) → fullSize ≤ room →
     Closed (x .job) (x .round) (x .base) (x .cuts) (Selected (x .stores .numbers) selection) (refine s selection room) (refineOut s selection room) room
 demand-3 s x selection good room full-size =
     let c = closed-proof s x selection good room full-size in

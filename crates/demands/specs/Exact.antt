@@ -10,6 +10,7 @@ use native.Mathlib.Omega.{arith}
 use lib.Dec.{eqb}
 use lib.IntN.{+ℤ-comm}
 use borrow.Author.Tests.{eqb-true, eqb-false, eq-eqb}
+use Rattle.piece.specs.Shape.{lastGeneration}
 use Rattle.laws.specs.Below.{either}
 use Rattle.piece_edges.specs.Edges.{lowSlot, highSlot, slots-small}
 use Rattle.grid.specs.declared.Place.{Place}
@@ -110,7 +111,7 @@ module _ (b : BaseMesh) where
 
     -- ---- exactly halfway
 
-    module _ (n : Node) (h : n .root < b .pieces) (g : generation n < 15) where
+    module _ (n : Node) (h : n .root < b .pieces) (g : generation n < lastGeneration) where
       -- In one coordinate of which base vertices are on the grid, twice the made vertex's place is the sum of the ends' places.
       field-exact : (f : Place → ℕ) → ((p q : Place) → f (halfwayOf p q) ≡ (f p + f q) / 2) → ((v : ℕ) → v < b .vertices → OnGrid (coordinate (f (b .placeAt v)))) →
           let p = pieceAt (named b) n in

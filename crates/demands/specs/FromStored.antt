@@ -8,6 +8,7 @@ use native.Mathlib.Omega.{arith}
 use lib.Dec.{eqb}
 use lib.ListN.{length}
 use borrow.Author.Tests.{eqb-true, eq-eqb}
+use Rattle.piece.specs.Shape.{lastGeneration}
 use Rattle.laws.specs.Below.{any-where, any-is}
 use Rattle.stored.specs.declared.Header.{Header}
 use Rattle.stored.specs.declared.Record.{Record}
@@ -25,8 +26,8 @@ use Rattle.cuts.specs.LinkGrown.{Grown}
 use Rattle.demands.specs.BaseMesh.{named}
 use Rattle.demands.specs.Stored.{Numbers, headerFor}
 use Rattle.demands.specs.StoredMesh.{StoredMesh}
-use Rattle.demands.specs.Further.{GoodSelection, Selected, count}
-use Rattle.demands.specs.Selections.{EarnsNone}
+use Rattle.demands.specs.Further.{GoodSelection, Selected}
+use Rattle.demands.specs.Selections.{EarnsNone, countIn}
 use Rattle.demands.specs.Link.{link}
 use Rattle.demands.specs.Lawful.{accepted-lawful}
 use Rattle.demands.specs.Holds.{Holds}
@@ -36,7 +37,7 @@ use Rattle.demands.specs.Counts.{records-within}
 use Rattle.demands.specs.Read.{written-holds, header-read}
 use Rattle.demands.specs.AcceptedOf.{accepted-of-stored}
 use Rattle.demands.specs.PassStages as Stages
-use Rattle.demands.specs.PassStages.{Start, UpTo15, Selectable}
+use Rattle.demands.specs.PassStages.{Start, UpToLast, Selectable}
 use Rattle.demands.specs.Closing.{Outcome, outcome}
 
 module _ (s : List ℕ) (x : StoredMesh s) where
@@ -88,22 +89,22 @@ module _ (s : List ℕ) (x : StoredMesh s) where
   abbrev pub start : Start m
   start = record { count = x .base .pieces; base = named (x .base); set = x .cuts; marked = properly-marked (x .base) (x .right .marked); grown = stored-grown }
 
-  pub up-to-15 : UpTo15 m
-  up-to-15 = accepted .mesh .cuts .generations
+  pub up-to-last : UpToLast m
+  up-to-last = accepted .mesh .cuts .generations
 
   module _ (selection : List ℕ) (good : GoodSelection (x .job) (x .round) (x .base) (x .cuts) N selection) where
     abbrev pub chosen : ℕ → Bool
-    chosen = isNamed (count selection) (namedIn selection)
+    chosen = isNamed (countIn selection) (namedIn selection)
 
-    which : (n : ℕ) → chosen n ≡ true → (i : ℕ) × (i < count selection) × (namedIn selection i ≡ n)
+    which : (n : ℕ) → chosen n ≡ true → (i : ℕ) × (i < countIn selection) × (namedIn selection i ≡ n)
     unfolding isNamed
-    which n e = let (i, l, q) = any-where (λ i. eqb (namedIn selection i) n) (count selection) e in (i, l, eqb-true (namedIn selection i) n q)
+    which n e = let (i, l, q) = any-where (λ i. eqb (namedIn selection i) n) (countIn selection) e in (i, l, eqb-true (namedIn selection i) n q)
 
-    named-chosen : (i : ℕ) → i < count selection → chosen (namedIn selection i) ≡ true
+    named-chosen : (i : ℕ) → i < countIn selection → chosen (namedIn selection i) ≡ true
     unfolding isNamed
-    named-chosen i l = any-is (λ j. eqb (namedIn selection j) (namedIn selection i)) (count selection) i l (eq-eqb (namedIn selection i) (namedIn selection i) refl)
+    named-chosen i l = any-is (λ j. eqb (namedIn selection j) (namedIn selection i)) (countIn selection) i l (eq-eqb (namedIn selection i) (namedIn selection i) refl)
 
-    named-leaf : (i : ℕ) → i < count selection → (namedIn selection i < allRecords m) × (isCut m (namedIn selection i) ≡ false) × (pieceAt m (namedIn selection i) .generation < 15)
+    named-leaf : (i : ℕ) → i < countIn selection → (namedIn selection i < allRecords m) × (isCut m (namedIn selection i) ≡ false) × (pieceAt m (namedIn selection i) .generation < lastGeneration)
     named-leaf i l =
         let n = namedIn selection i in
         let there = good .there i l in
@@ -111,14 +112,14 @@ module _ (s : List ℕ) (x : StoredMesh s) where
         let first : m .recordAt n .«first_child» ≡ none = ap (λ (r : Record). r .«first_child») is ∙ x .stores .records-numbered .uncut n there (good .uncut i l) in
         let own : pieceAt m n .generation ≡ generation (N .nodeAt n) = ap (λ (r : Record). r .piece .generation) is in
         let deep = x .right .shallow (N .nodeAt n) (x .stores .records-numbered .there n there) in
-        let apart : generation (N .nodeAt n) ≢ 15 = good .not-last i l in
-        let young : generation (N .nodeAt n) < 15 = omega arith in
+        let apart : generation (N .nodeAt n) ≢ lastGeneration = good .not-last i l in
+        let young : generation (N .nodeAt n) < lastGeneration = omega arith in
         (omega (arith, there, holds .records), ap (λ (f : ℕ). not (eqb f none)) first, omega arith)
 
     pub selectable : Selectable m chosen
     selectable n e =
         let (i, l, q) = which n e in
-        subst (λ (k : ℕ). (k < allRecords m) × (isCut m k ≡ false) × (pieceAt m k .generation < 15)) q (named-leaf i l)
+        subst (λ (k : ℕ). (k < allRecords m) × (isCut m k ≡ false) × (pieceAt m k .generation < lastGeneration)) q (named-leaf i l)
 
     -- The nodes of the chosen records are the selected pieces.
     pub chosen-selected : (n : Node) → Stages.Selected m chosen n → Selected N selection n
@@ -132,7 +133,7 @@ module _ (s : List ℕ) (x : StoredMesh s) where
 
     -- What the passes make of it.
     pub made : Outcome limits m start chosen (refined limits chosen m)
-    made = outcome limits (omega arith) m start (stored-four s) up-to-15 chosen selectable
+    made = outcome limits (omega arith) m start (stored-four s) up-to-last chosen selectable
 
     -- The selection earns none of 11 to 18 from the mesh.
     pub earns-none : EarnsNone m selection
@@ -166,5 +167,5 @@ module _ (s : List ℕ) (x : StoredMesh s) where
         not-last-round = λ q. e .round-rises (stored-round ∙ q);
       }
     where
-      there : (i : ℕ) → i < count selection → namedIn selection i < N .records
+      there : (i : ℕ) → i < countIn selection → namedIn selection i < N .records
       there i l = omega (arith, e .numbers .there i l, holds .records)

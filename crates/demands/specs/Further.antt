@@ -15,13 +15,10 @@ use Rattle.cuts.specs.Count.{CutList, LeafList}
 use Rattle.demands.specs.BaseMesh.{BaseMesh, named}
 use Rattle.demands.specs.Stored.{Fits, Numbers, Stores}
 use Rattle.demands.specs.StoredMesh.{RightSet}
-use Rattle.demands.specs.Selections.{RightSelectionLength, RightSelectionMark}
+use Rattle.demands.specs.Selections.{RightSelectionLength, RightSelectionMark, countIn}
 use Rattle.demands.specs.Figures.{sixfoldAt, sumOf}
 
--- How many numbers a selection has, the i-th of them, and the node of the record with that number.
-abbrev pub count : List ℕ → ℕ
-count selection = selectionOf selection .count
-
+-- The node of the record that the selection's i-th number names.
 abbrev pub nodeNamed : Numbers → List ℕ → ℕ → Node
 nodeNamed N selection i = N .nodeAt (namedIn selection i)
 
@@ -36,18 +33,18 @@ pub record GoodSelection (job round : ℕ) (b : BaseMesh) (C : Cuts (b .pieces))
   -- not 14: "another round"
   pub same-round : selectionOf selection .round ≡ round
   -- not 15: "numbers not strictly rising, or one not below the record count"
-  pub rising : (i j : ℕ) → i < j → j < count selection → namedIn selection i < namedIn selection j
-  pub there : (i : ℕ) → i < count selection → namedIn selection i < N .records
+  pub rising : (i j : ℕ) → i < j → j < countIn selection → namedIn selection i < namedIn selection j
+  pub there : (i : ℕ) → i < countIn selection → namedIn selection i < N .records
   -- not 16: "a named record is already cut"
-  pub uncut : (i : ℕ) → i < count selection → C .has (nodeNamed N selection i) ≡ false
+  pub uncut : (i : ℕ) → i < countIn selection → C .has (nodeNamed N selection i) ≡ false
   -- not 17: "a named record has generation 15"
-  pub not-last : (i : ℕ) → i < count selection → generation (nodeNamed N selection i) ≢ lastGeneration
+  pub not-last : (i : ℕ) → i < countIn selection → generation (nodeNamed N selection i) ≢ lastGeneration
   -- not 18: "the round is 65,535"
   pub not-last-round : round ≢ lastRound
 
 -- The selected pieces.
 abbrev pub Selected : Numbers → List ℕ → Node → Type 0
-Selected N selection n = (i : ℕ) × (i < count selection) × (nodeNamed N selection i ≡ n)
+Selected N selection n = (i : ℕ) × (i < countIn selection) × (nodeNamed N selection i ≡ n)
 
 -- X is one of "every set of further cuts that cuts each selected piece and leaves no hanging edge".
 pub record Closes (b : BaseMesh) (C : Cuts (b .pieces)) (selected : Node → Type 0) (X : Cuts (b .pieces)) : Type 0 where

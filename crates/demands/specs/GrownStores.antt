@@ -6,6 +6,7 @@ use mathlib.Core.List.{[], _∷_}
 use Prim.Native.Nat.{ℕ, _<_}
 use lib.Dec.{ltb}
 use borrow.Author.Tests.{ltb-true}
+use Rattle.stored.specs.Fitting.{U16, U32}
 use Rattle.laws.specs.Below.{either, listBelow, list-same}
 use Rattle.laws.specs.Lists.{four-of}
 use Rattle.piece.specs.Shape.{mark}
@@ -114,7 +115,7 @@ module _ (m : Check.Tables) (b : BaseMesh) (N : Numbers) (holds : Holds m b N) w
 
 module _ (m : Check.Tables) (b : BaseMesh) (D : Cuts (b .pieces)) (g : Grown (named b) (link m) D) (base-vertices : baseVertices m ≡ b .vertices) where
   -- What refine writes of grown tables stores their set, for the job and the round of its header.
-  pub grown-stores : (job round : ℕ) → job < 4294967296 → round < 65536 → resultOf m .header .job ≡ job → resultOf m .header .round ≡ round →
+  pub grown-stores : (job round : ℕ) → U32 job → U16 round → resultOf m .header .job ≡ job → resultOf m .header .round ≡ round →
       ((v : ℕ) → v < b .vertices → (parentP m v ≡ none) × (parentQ m v ≡ none)) → ((n : ℕ) → n < allRecords m → Four (pieceAt m n)) →
       VerticesNumbered b D (numbersOf m) → Stores (meshBytes (resultOf m)) job round b D
   grown-stores job round job-fits round-fits is-job is-round parents four vertices =

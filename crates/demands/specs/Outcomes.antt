@@ -9,7 +9,7 @@ use native.Mathlib.Omega.{arith}
 use lib.ListN.{length, getD, replicate, length-append, length-replicate}
 use lib.IntN.{ℤ}
 use lib.Dec.{eqb, ltb}
-use borrow.Author.Tests.{eqb-true, eqb-false, ne-eqb, lt-ltb, le-ltb, ltb-false}
+use borrow.Author.Tests.{eqb-true, eqb-false, ne-eqb, lt-ltb, le-ltb, ltb-false, eq-eqb}
 use Rattle.laws.specs.Below.{either, list-length}
 use Rattle.laws.specs.Lists.{Bytes, joined, joined-length}
 use Rattle.stored.specs.Layout.{vertexWidth, recordWidth, limits, lastRound, meshLength, headerOf, headerBytes, vertexBytes, recordBytes, Mesh, meshBytes}
@@ -286,6 +286,10 @@ module _ (s : List ℕ) where
   pub too-long-line : meshLength (limits .vertices) (limits .records) < length s → linesOf s ≡ refusedLine 1 ∷ []
   unfolding linesOf
   too-long-line l = rw (lt-ltb (meshLength (limits .vertices) (limits .records)) (length s) l)
+
+  pub accepted-lines : length s ≤ meshLength (limits .vertices) (limits .records) → checkOf s .number ≡ 0 → linesOf s ≡ meshLines (tablesOf s) (checkOf s)
+  unfolding linesOf judgedLines
+  accepted-lines l e = rw (le-ltb (meshLength (limits .vertices) (limits .records)) (length s) l, eq-eqb (checkOf s .number) 0 e)
 
   pub refused-line : length s ≤ meshLength (limits .vertices) (limits .records) → checkOf s .number ≢ 0 → linesOf s ≡ refusedLine (checkOf s .number) ∷ []
   unfolding linesOf judgedLines

@@ -6,6 +6,7 @@ use mathlib.Core.Logic.{_⊎_, inl, inr, ⊎-elim, _≢_}
 use Prim.Native.Nat.{ℕ, zero, suc, _≤_, _<_}
 use native.Mathlib.Nat.{le-refl}
 use native.Mathlib.Omega.{arith}
+use Rattle.piece.specs.Shape.{lastGeneration}
 use Rattle.laws.specs.Pairs.{SamePair}
 use Rattle.piece_edges.specs.Edges.{lowSlot, highSlot}
 use Rattle.piece.specs.Ends.{cornerAt}
@@ -40,11 +41,11 @@ abbrev pub Selected : Check.Tables → (ℕ → Bool) → Node → Type 0
 Selected m chosen x = (n : ℕ) × (chosen n ≡ true) × (nodeOf (link m) n ≡ x)
 
 -- "Generations go up to 15", and what may be chosen: leaves of a generation below 15.
-abbrev pub UpTo15 : Check.Tables → Type 0
-UpTo15 m = (n : ℕ) → n < allRecords m → pieceAt m n .generation ≤ 15
+abbrev pub UpToLast : Check.Tables → Type 0
+UpToLast m = (n : ℕ) → n < allRecords m → pieceAt m n .generation ≤ lastGeneration
 
 abbrev pub Selectable : Check.Tables → (ℕ → Bool) → Type 0
-Selectable m chosen = (n : ℕ) → chosen n ≡ true → (n < allRecords m) × (isCut m n ≡ false) × (pieceAt m n .generation < 15)
+Selectable m chosen = (n : ℕ) → chosen n ≡ true → (n < allRecords m) × (isCut m n ≡ false) × (pieceAt m n .generation < lastGeneration)
 
 -- Why record n may be cut: it is a selected one, or one of its edges hangs.
 abbrev pub Ground : Check.Tables → (ℕ → Bool) → Check.Tables → ℕ → Type 0
@@ -82,33 +83,33 @@ stage-start m start chosen four =
       halfway = λ v b l. absurd (omega arith);
     }
 
-module _ (m : Check.Tables) (start : Start m) (shallow : UpTo15 m) where
+module _ (m : Check.Tables) (start : Start m) (shallow : UpToLast m) where
   -- A cut of the set that was given has a child, so its generation is below 15.
-  cuts-shallow : CutsBelow 15 (start .set)
+  cuts-shallow : CutsBelow lastGeneration (start .set)
   cuts-shallow x e =
       let (r, l, c, q) = start .grown .represents .only x e in
       let cut = start .grown .lawful .properlyCut r l c in
       let own : pieceAt m r .generation ≡ generation (nodeOf (link m) r) = linked (link m) (start .grown .lawful) r l .generation in
-      let young : generation (nodeOf (link m) r) < 15 = omega (arith, cut .firstChild .generation, shallow (m .recordAt r .«first_child») (omega (arith, cut .inside))) in
-      subst (λ (y : Node). generation y < 15) q young
+      let young : generation (nodeOf (link m) r) < lastGeneration = omega (arith, cut .firstChild .generation, shallow (m .recordAt r .«first_child») (omega (arith, cut .inside))) in
+      subst (λ (y : Node). generation y < lastGeneration) q young
 
   module _ (chosen : ℕ → Bool) (leaf : Selectable m chosen) where
-    selected-shallow : (x : Node) → Selected m chosen x → generation x < 15
+    selected-shallow : (x : Node) → Selected m chosen x → generation x < lastGeneration
     selected-shallow x (n, c, q) =
         let (l, u, young) = leaf n c in
         let own : pieceAt m n .generation ≡ generation (nodeOf (link m) n) = linked (link m) (start .grown .lawful) n l .generation in
-        let small : generation (nodeOf (link m) n) < 15 = omega arith in
-        subst (λ (y : Node). generation y < 15) q small
+        let small : generation (nodeOf (link m) n) < lastGeneration = omega arith in
+        subst (λ (y : Node). generation y < lastGeneration) q small
 
     module _ {t : Check.Tables} {D : Cuts (start .count)} (st : Stage m start chosen t D) where
       -- So the cuts of every stage have generations below 15, and its records of at most 15.
-      pub stage-below : CutsBelow 15 D
+      pub stage-below : CutsBelow lastGeneration D
       stage-below = reached-below (start .base) (Selected m chosen) (st .reached) (start .marked) 5 cuts-shallow selected-shallow
 
-      pub stage-young : (n : ℕ) → n < allRecords t → pieceAt t n .generation ≤ 15
+      pub stage-young : (n : ℕ) → n < allRecords t → pieceAt t n .generation ≤ lastGeneration
       stage-young n l =
           let g = st .grown in
-          omega (arith, linked (link t) (g .lawful) n l .generation, there-below 15 D stage-below (nodeOf (link t) n) (node-there (link t) (g .lawful) D (g .represents) n l))
+          omega (arith, linked (link t) (g .lawful) n l .generation, there-below lastGeneration D stage-below (nodeOf (link t) n) (node-there (link t) (g .lawful) D (g .represents) n l))
 
 -- ---- one cut
 
@@ -133,7 +134,7 @@ later-then a b =
       nodes = λ n l. b .nodes n (omega (arith, a .records)) ∙ a .nodes n l;
     }
 
-module _ (m : Check.Tables) (start : Start m) (shallow : UpTo15 m) (chosen : ℕ → Bool) (leaf : Selectable m chosen) where
+module _ (m : Check.Tables) (start : Start m) (shallow : UpToLast m) (chosen : ℕ → Bool) (leaf : Selectable m chosen) where
   -- A selected or a hanging leaf is cut.
   pub stage-cut : {t : Check.Tables} {D : Cuts (start .count)} → Stage m start chosen t D → (n : ℕ) → n < allRecords t → isCut t n ≡ false → Ground m chosen t n → allRecords t < none → Later m start chosen t D (cutAt t n)
   stage-cut {t} {D} st n l u why few =
@@ -186,7 +187,7 @@ hangs-still s t n e l b k h =
       ends = subst₂ (λ (x : Vertex) (y : Record). SamePair (x .p) (x .q) (cornerAt (y .piece) (lowSlot e)) (cornerAt (y .piece) (highSlot e))) (sym v) (sym r) (h .ends);
     }
 
-module _ (most : Limits) (room : most .records < none) (m : Check.Tables) (start : Start m) (shallow : UpTo15 m) (chosen : ℕ → Bool) (leaf : Selectable m chosen)
+module _ (most : Limits) (room : most .records < none) (m : Check.Tables) (start : Start m) (shallow : UpToLast m) (chosen : ℕ → Bool) (leaf : Selectable m chosen)
     (s : Check.Tables) (D : Cuts (start .count)) (st : Stage m start chosen s D) (choice : ℕ → Bool) (may : May m chosen s choice) where
   -- A turn that cuts.
   turn-cuts : (n : ℕ) → n < allRecords s → (t : Check.Tables) → Kept n s t → Turned m start chosen most s D choice n t → exceeds most (t .header) ≡ false → choice n ≡ true →

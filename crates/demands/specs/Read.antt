@@ -18,7 +18,7 @@ use Rattle.grid.specs.PlaceLaws.{Held}
 use Rattle.grid.specs.Corners.{Midpoint}
 use Rattle.grid.specs.GridTheorems.{halfway-exactly, halfway-only}
 use Rattle.stored.specs.Layout.{limits, meshBytes}
-use Rattle.stored.specs.Fitting.{OrNone, VertexFits, RecordFits, Counted, MeshFits}
+use Rattle.stored.specs.Fitting.{OrNone, VertexFits, RecordFits, Counted, MeshFits, U16, U32}
 use Rattle.stored.specs.Meshes.{mesh-header, mesh-vertex, mesh-record}
 use Rattle.check_refusals.specs.Tables.{tablesOf}
 use Rattle.check_meaning.specs.Tests.{equal, and-passes, or-passes}
@@ -96,7 +96,7 @@ module _ (b : BaseMesh) (C : Cuts (b .pieces)) (N : Numbers) (marked : ProperlyM
   pub record-valid : RecordsNumbered b C N → (r : ℕ) → r < N .records → Valid (pieceAt (named b) (N .nodeAt r) .shape)
   record-valid nr r h = node-valid (properly-marked b marked) (N .nodeAt r) (there-rooted C (N .nodeAt r) (nr .there r h))
 
-module _ (job round : ℕ) (b : BaseMesh) (C : Cuts (b .pieces)) (right : RightSet b C) (N : Numbers) (nv : VerticesNumbered b C N) (nr : RecordsNumbered b C N) (job-fits : job < 4294967296) (round-fits : round < 65536) where
+module _ (job round : ℕ) (b : BaseMesh) (C : Cuts (b .pieces)) (right : RightSet b C) (N : Numbers) (nv : VerticesNumbered b C N) (nr : RecordsNumbered b C N) (job-fits : U32 job) (round-fits : U16 round) where
   few-vertices : N .vertices ≤ 1024
   few-vertices = vertices-within limits b C (right .fits) N nv
 

@@ -9,6 +9,7 @@ use native.Mathlib.Nat.{eq-or-lt-of-le, le-of-suc-le-suc}
 use native.Mathlib.Omega.{arith}
 use lib.ListN.{length, getD}
 use lib.Dec.{ltb}
+use Rattle.demands.specs.Stored.{fullSize}
 use Rattle.laws.specs.Below.{either}
 use Rattle.stored.specs.declared.Limits.{Limits}
 use Rattle.stored.specs.Layout.{limits, meshLength, headerOf, selectionOf}
@@ -330,7 +331,7 @@ module _ (mesh selection : List ℕ) (accepted : checkNumber mesh ≡ 0) where
     )
 
     -- "The largest mesh is 62,484 bytes.": with a buffer that can hold it the number is 0 or 19.
-    pub good-number : 62484 ≤ room → (refineNumber mesh selection room ≡ 0) ⊎ (refineNumber mesh selection room ≡ 19)
+    pub good-number : fullSize ≤ room → (refineNumber mesh selection room ≡ 0) ⊎ (refineNumber mesh selection room ≡ 19)
     good-number l =
         ⊎-elim inl
         (λ late. ⊎-elim

@@ -6,6 +6,8 @@ use mathlib.Core.List.{List}
 use Prim.Native.Nat.{ℕ, _+_, _≤_, _<_}
 use native.Mathlib.Omega.{arith}
 use borrow.Author.Tests.{lt-ltb}
+use Rattle.stored.specs.Fitting.{U16}
+use Rattle.piece.specs.Shape.{lastGeneration}
 use Rattle.grid.specs.declared.Place.{Place}
 use Rattle.grid.specs.Places.{pointOf, halfwayOf}
 use Rattle.grid.specs.Corners.{Midpoint}
@@ -151,7 +153,7 @@ module _ (s : List ℕ) (x : StoredMesh s) (selection : List ℕ) (good : GoodSe
   numbered : VerticesNumbered b D (numbersOf t)
   numbered = grown-vertices t b D g base-vertices base-place exactly
 
-  round-fits : x .round + 1 < 65536
+  round-fits : U16 (x .round + 1)
   round-fits = let apart : x .round ≢ lastRound = good .not-last-round in omega (arith, x .stores .round-fits)
 
   pub result-stores : Stores (meshBytes (resultOf t)) (x .job) (x .round + 1) b D
@@ -171,7 +173,7 @@ module _ (s : List ℕ) (x : StoredMesh s) (selection : List ℕ) (good : GoodSe
           marked = x .right .marked;
           none-hangs = From.made s x selection good .rests few;
           fits = grown-fits t b D g base-vertices limits (h .0) (h .1);
-          shallow = there-below 15 D (From.made s x selection good .below);
+          shallow = there-below lastGeneration D (From.made s x selection good .below);
         }
 
     abbrev pub result-mesh : StoredMesh (meshBytes (resultOf t))

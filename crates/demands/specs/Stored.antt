@@ -6,6 +6,7 @@ use mathlib.Core.List.{List, [], _∷_}
 use Prim.Native.Nat.{ℕ, _+_, _*_, _≤_, _<_}
 use lib.ListN.{length}
 use lib.Dec.{ltb}
+use Rattle.stored.specs.Fitting.{U16, U32}
 use Rattle.laws.specs.Below.{listBelow}
 use Rattle.piece_edges.specs.Edges.{lowSlot, highSlot}
 use Rattle.piece.specs.Shape.{lastGeneration, mark}
@@ -16,7 +17,7 @@ use Rattle.stored.specs.declared.Limits.{Limits}
 use Rattle.stored.specs.declared.Header.{Header}
 use Rattle.stored.specs.declared.Vertex.{Vertex}
 use Rattle.stored.specs.declared.Record.{Record}
-use Rattle.stored.specs.Layout.{none, Mesh, meshBytes}
+use Rattle.stored.specs.Layout.{none, Mesh, meshBytes, limits, meshLength}
 use Rattle.cuts_names.specs.Names as Names
 use Rattle.cuts_names.specs.Names.{Name, mid}
 use Rattle.cuts_names.specs.Pieces.{Side, low, high, Node, generation, kid, pieceAt, makes}
@@ -35,6 +36,10 @@ pub record Fits (most : Limits) (b : BaseMesh) (C : Cuts (b .pieces)) : Type 0 w
   pub made-listed : MadeList (named b) C made
   pub vertices : b .vertices + length made ≤ most .vertices
   pub records : b .pieces + 2 * length cuts ≤ most .records
+
+-- "An output buffer that can hold the largest mesh of the version written is full-size."
+abbrev pub fullSize : ℕ
+fullSize = meshLength (limits .vertices) (limits .records)
 
 -- "Generations go up to 15": of whatever is there.
 abbrev pub Shallow : (b : BaseMesh) → Cuts (b .pieces) → Type 0
@@ -144,8 +149,8 @@ written job round b N =
 
 -- The byte string stores the set C of cuts of the base mesh b, for this job and round.
 pub record Stores (s : List ℕ) (job round : ℕ) (b : BaseMesh) (C : Cuts (b .pieces)) : Type 0 where
-  pub job-fits : job < 4294967296
-  pub round-fits : round < 65536
+  pub job-fits : U32 job
+  pub round-fits : U16 round
   pub numbers : Numbers
   pub vertices-numbered : VerticesNumbered b C numbers
   pub records-numbered : RecordsNumbered b C numbers
