@@ -40,9 +40,11 @@ impl Tree {
     fn new(name: &str) -> Tree {
         let root = Path::new(env!("CARGO_TARGET_TMPDIR")).join(format!("making {name}"));
         let _ = fs::remove_dir_all(&root);
-        for folder in ["docs", "command/src", "elsewhere"] {
+        for folder in ["docs", "command/src", "elsewhere", "kit"] {
             fs::create_dir_all(root.join(folder)).unwrap();
         }
+        // The stand-in for rt needs nothing more of a kit, on whichever processor.
+        fs::write(root.join("kit/native"), "").unwrap();
         for name in ["laws", "stored", "unneeded", "list", "station"] {
             fs::create_dir_all(root.join("crates").join(name)).unwrap();
         }
@@ -65,6 +67,7 @@ impl Tree {
             "docs/tmb.h",
             "docs/tmb.1",
             "command/Cargo.toml",
+            "command/native-kit",
         ] {
             let mut copy = Command::new("cp");
             copy.arg(up.join(name)).arg(root.join(name));
@@ -83,6 +86,7 @@ impl Tree {
         command
             .current_dir(self.root.join("elsewhere"))
             .env("PATH", &self.path)
+            .env("RATTLE_HOME", self.root.join("kit"))
             .env_remove("CARGO_TARGET_DIR")
             .env_remove("DESTDIR")
             .stdin(Stdio::null())
@@ -338,7 +342,7 @@ fn a_tool_is_missing() {
         symlink(found.unwrap(), tools.join(name)).unwrap();
     };
     for name in [
-        "bash", "env", "dirname", "readlink", "find", "mkdir", "rm", "mv", "cat", "chmod",
+        "bash", "env", "uname", "dirname", "readlink", "find", "mkdir", "rm", "mv", "cat", "chmod",
     ] {
         add(name);
     }
