@@ -11,6 +11,7 @@ use borrow.Author.Tests.{eqb-true, eqb-false, eq-eqb, ne-eqb, ltb-true, ltb-fals
 use Rattle.laws.specs.Below.{foldBelow, allBelow, firstBelow, all-at, and-left, and-right, or-second, or-left-false, or-right-false, either}
 use Rattle.laws.specs.Pairs.{SamePair}
 use Rattle.piece_edges.specs.Edges.{lowSlot, highSlot, hasSlot, joins, edgeBetween, onFace, opposite, slots-small}
+use Rattle.piece_edges.specs.Tables.{has-slot, has-low, has-high}
 use Rattle.piece.specs.Shape.{Shape, mark, markFits, flagFits, validShape, Valid}
 use Rattle.piece.specs.Every.{onlyIf, onlyIf-holds}
 use Rattle.cuts_names.specs.Names.{Name, mid, mid-sym, mid-injective, level}
@@ -18,7 +19,7 @@ use Rattle.cuts_names.specs.Pieces.{Piece, Side, renamed, midOf, pieceDown}
 use Rattle.cuts_names.specs.Lists.{same-tests}
 use Rattle.cuts_names.specs.Base.{Different, HasCorner, OnFace, SameFace, markedAt}
 use Rattle.cuts_names.specs.Three.{formal, formalDown, standsFor, Macro}
-use Rattle.cuts_names.specs.Macro.{has-low, has-high, down-stands, stands-corner, stands-past, stands-mid, old-level, new-level, mid-alike, formal-small}
+use Rattle.cuts_names.specs.Macro.{down-stands, stands-corner, stands-past, stands-mid, old-level, new-level, mid-alike, formal-small}
 use Rattle.cuts_formal.specs.FacesFormal.{some-slot, is-some-slot, onFormal, lies, lies-old, lies-new, under, code, code-same, Inherited, Across, Inside, formal-different, formal-one-path, formal-one-mark}
 
 -- x lies under the names S, seen from level k: it is one of them, or they have a midpoint of level k + 1 with x for a parent.
@@ -30,13 +31,6 @@ pub under-map : (k : ℕ) (S T : Name → Type 0) → ((x : Name) → S x → T 
 under-map k S T f x u = ⊎-elim (λ a. inl (f x (a .0), a .1)) (λ b. inr (b .0, f (mid x (b .0)) (b .1), b .2)) u
 
 -- ---- edges by their ends
-
--- The two ends of an edge.
-has-slot : (e x : ℕ) → hasSlot e x ≡ true → (lowSlot e ≡ x) ⊎ (highSlot e ≡ x)
-unfolding hasSlot
-has-slot e x t =
-    ⊎-elim (λ l. inl (eqb-true (lowSlot e) x l)) (λ n. inr (eqb-true (highSlot e) x (or-second (eqb (lowSlot e) x) (eqb (highSlot e) x) n t)))
-    (either (eqb (lowSlot e) x))
 
 -- An edge is the one between its ends, either way round.
 between : (e : ℕ) → e < 6 → (edgeBetween (lowSlot e) (highSlot e) ≡ e) × (edgeBetween (highSlot e) (lowSlot e) ≡ e)

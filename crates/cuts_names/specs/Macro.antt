@@ -8,8 +8,9 @@ use native.Mathlib.Omega.{arith}
 use lib.ListN.{length}
 use lib.Dec.{eqb, ltb}
 use borrow.Author.Tests.{eqb-true, eq-eqb, ltb-true, ltb-false, lt-ltb, le-ltb, not-true}
-use Rattle.laws.specs.Below.{foldBelow, allBelow, firstBelow, all-at, and-left, and-right, or-true, or-second, either}
+use Rattle.laws.specs.Below.{foldBelow, allBelow, firstBelow, all-at, and-left, and-right, or-second, either}
 use Rattle.piece_edges.specs.Edges.{lowSlot, highSlot, hasSlot, otherEnd, joins, edgeBetween, onFace, opposite, oppositeOn, shares, sharedSlot, slots-small}
+use Rattle.piece_edges.specs.Tables.{has-low, has-high}
 use Rattle.piece.specs.Shape.{Shape, unset, slotA, slotB, edgeCD, slotC, slotD, otherMarksAre, typeP, typeA, typeO, typeM, setP, unsetP, markFits, flagFits, validShape, Valid}
 use Rattle.piece_cut.specs.Cut.{newMark, childFlag, childMark, childShape}
 use Rattle.piece.specs.Every.{everyShape, every-shape, onlyIf, onlyIf-holds}
@@ -146,15 +147,6 @@ module _ (s : Shape) (v : Valid s) (f : s .flag ≡ 0) where
 pub edge-below : (s : Shape) → Valid s → s .edge < 6
 unfolding validShape
 edge-below s v = ltb-true (s .edge) 6 (and-left (ltb (s .edge) 6) _ (v .valid))
-
--- Both slots of an edge are its ends.
-pub has-low : (e : ℕ) → hasSlot e (lowSlot e) ≡ true
-unfolding hasSlot
-has-low e = ap (λ (b : Bool). b || eqb (highSlot e) (lowSlot e)) (eq-eqb (lowSlot e) (lowSlot e) refl)
-
-pub has-high : (e : ℕ) → hasSlot e (highSlot e) ≡ true
-unfolding hasSlot
-has-high e = ap (λ (b : Bool). eqb (lowSlot e) (highSlot e) || b) (eq-eqb (highSlot e) (highSlot e) refl) ∙ or-true (eqb (lowSlot e) (highSlot e))
 
 -- Both children of a valid shape are valid.
 pub side-valid : (s : Shape) → Valid s → (side : Side) → Valid (childShape s (endAt s side))

@@ -52,7 +52,8 @@ pub fn corner(p: Piece, k: u8) -> u32
     if at < 4 { p.corners[at] } else { 0 }
 }
 
-fn lower_end(p: Piece, e: u8) -> u8
+// Of edge e, the slot of the end of lower vertex number.
+pub fn lower_end(p: Piece, e: u8) -> u8
     ensures { λ r. ⌜ r ≡ lowerEnd p e ⌝ }
 {
     let low = piece_edges::low_slot(e);
@@ -63,7 +64,8 @@ fn lower_end(p: Piece, e: u8) -> u8
     high
 }
 
-fn higher_end(p: Piece, e: u8) -> u8
+// Of edge e, the slot of the end of higher vertex number.
+pub fn higher_end(p: Piece, e: u8) -> u8
     ensures { λ r. ⌜ r ≡ higherEnd p e ⌝ }
 {
     let low = piece_edges::low_slot(e);

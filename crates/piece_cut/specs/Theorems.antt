@@ -150,6 +150,48 @@ module _ (s : Shape) (v : Valid s) (k : ℕ) (end : End s k) where
 
 -- ---- the new face
 
+-- "The edge connecting the new vertex to the new refinement edge", and "the edge opposite the new vertex": the new vertex is in slot k, the
+-- new refinement edge is the child's, and the new face is the one without the end that stays.
+abbrev onNewFace : Shape → ℕ → Bool
+onNewFace s k = onFace (newMark s k) (otherEnd (s .edge) k)
+
+abbrev reaches : Shape → ℕ → Bool
+reaches s k = hasSlot (childShape s k .edge) (otherEnd (newMark s k) k)
+
+abbrev connects : Shape → ℕ → Bool
+connects s k = hasSlot (newMark s k) k && (reaches s k && onNewFace s k)
+
+abbrev isOpposite : Shape → ℕ → Bool
+isOpposite s k = onNewFace s k && onFace (newMark s k) k
+
+newFaceMark : Shape → ℕ → Bool
+newFaceMark s k =
+    let ifSet = connects s k in
+    let otherwise = isOpposite s k in
+    cond (setP s) ifSet otherwise
+
+newFaceMark-holds : everyShape (atBothEnds newFaceMark) ≡ true
+unfolding computed newFaceMark
+newFaceMark-holds = refl
+
+module _ (s : Shape) (v : Valid s) (k : ℕ) (end : End s k) where
+  new-face-mark : cond (setP s) (connects s k) (isOpposite s k) ≡ true
+  unfolding newFaceMark
+  new-face-mark = every-cut newFaceMark newFaceMark-holds s v k end
+
+  -- If the parent is type P_f, the mark of the new face connects the new vertex to an end of the child's refinement edge.
+  pub connects-to-the-refinement-edge : setP s ≡ true → (hasSlot (newMark s k) k ≡ true) × (hasSlot (childShape s k .edge) (otherEnd (newMark s k) k) ≡ true) × (onFace (newMark s k) (otherEnd (s .edge) k) ≡ true)
+  connects-to-the-refinement-edge t =
+      let all : connects s k ≡ true = rw t at new-face-mark in
+      let rest = and-right (hasSlot (newMark s k) k) (reaches s k && onNewFace s k) all in
+      (and-left (hasSlot (newMark s k) k) (reaches s k && onNewFace s k) all, and-left (reaches s k) (onNewFace s k) rest, and-right (reaches s k) (onNewFace s k) rest)
+
+  -- Otherwise it is the edge of the new face without the new vertex.
+  pub opposite-the-new-vertex : setP s ≡ false → (onFace (newMark s k) (otherEnd (s .edge) k) ≡ true) × (onFace (newMark s k) k ≡ true)
+  opposite-the-new-vertex f =
+      let both : isOpposite s k ≡ true = rw f at new-face-mark in
+      (and-left (onNewFace s k) (onFace (newMark s k) k) both, and-right (onNewFace s k) (onFace (newMark s k) k) both)
+
 abbrev samePair : ℕ → ℕ → ℕ → ℕ → Bool
 samePair x y x′ y′ = (eqb x x′ && eqb y y′) || (eqb x y′ && eqb y x′)
 

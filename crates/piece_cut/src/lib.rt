@@ -1,166 +1,23 @@
-// What cutting gives: document 002's BisectTet, step by step.
+// Document 002's BisectTet, to be read beside it: its five steps from top to bottom, then the two children that they make.
+//
+// w is the new vertex, the midpoint of the refinement edge. A child has w in the slot of one end of the refinement edge, which is k below;
+// all else stays in its slot. "Each child has one inherited face, two cut faces, and one new face, which is common to both children":
+// - the inherited face is the one without w, face k: it is a face of the parent;
+// - the new face is the one without the end of the refinement edge that stays: w and the two corners not on the refinement edge;
+// - the two cut faces are the others: each is half of a face of the parent.
 use piece::Piece;
 ghost use mathlib.Core.Path.{_≡_};
-ghost use Rattle.piece_edges.specs.Edges.{otherEnd, joins, edgeBetween, opposite, oppositeOn, shares, sharedSlot};
-ghost use Rattle.piece.specs.Shape.{shapeOf, otherMarksAre, typeP, setP};
-ghost use Rattle.piece_cut.specs.Cut.{childCorners, newMark, childFlag, childMark, childOf, cutOf};
+ghost use Rattle.piece.specs.Shape.{shapeOf};
+ghost use Rattle.piece_cut.specs.Cut.{childCorners, inheritedMark, refinementEdge, cutMark, newMark, childFlag, childMark, childOf, cutOf};
 
-// What cutting gives.
+// The two children, "first" and "second" as document 01 orders them.
 pub struct Children {
     pub first: Piece,
     pub second: Piece,
 }
 
-fn other_end(e: u8, k: u8) -> u8
-    ensures { λ r. ⌜ r ≡ otherEnd e k ⌝ }
-{
-    let low = piece_edges::low_slot(e);
-    if low == k {
-        return piece_edges::high_slot(e);
-    }
-    low
-}
-
-fn joined_by(e: u8, j: u8, k: u8) -> bool
-    ensures { λ r. ⌜ r ≡ joins j k e ⌝ }
-{
-    if j == k {
-        return false;
-    }
-    if piece_edges::has_slot(e, j) {
-        return piece_edges::has_slot(e, k);
-    }
-    false
-}
-
-fn edge_between(j: u8, k: u8) -> u8
-    ensures { λ r. ⌜ r ≡ edgeBetween j k ⌝ }
-{
-    let mut e: u8 = 0;
-    while e < 6 {
-        if joined_by(e, j, k) {
-            return e;
-        }
-        e += 1;
-    }
-    6
-}
-
-fn on_both(e: u8, i: u8, k: u8) -> bool
-    ensures { λ r. ⌜ r ≡ opposite i k e ⌝ }
-{
-    if piece_edges::on_face(e, i) {
-        return piece_edges::on_face(e, k);
-    }
-    false
-}
-
-fn opposite_on(i: u8, k: u8) -> u8
-    ensures { λ r. ⌜ r ≡ oppositeOn i k ⌝ }
-{
-    let mut e: u8 = 0;
-    while e < 6 {
-        if on_both(e, i, k) {
-            return e;
-        }
-        e += 1;
-    }
-    6
-}
-
-fn shared_at(k: u8, e: u8, f: u8) -> bool
-    ensures { λ r. ⌜ r ≡ shares e f k ⌝ }
-{
-    if piece_edges::has_slot(e, k) {
-        return piece_edges::has_slot(f, k);
-    }
-    false
-}
-
-fn shared_slot(e: u8, f: u8) -> u8
-    ensures { λ r. ⌜ r ≡ sharedSlot e f ⌝ }
-{
-    let mut k: u8 = 0;
-    while k < 4 {
-        if shared_at(k, e, f) {
-            return k;
-        }
-        k += 1;
-    }
-    4
-}
-
-fn other_marks_are(p: Piece, x: u8, y: u8) -> bool
-    ensures { λ r. ⌜ r ≡ otherMarksAre (shapeOf p) x y ⌝ }
-{
-    if piece::mark_of(p, piece_edges::high_slot(p.edge)) == x {
-        return piece::mark_of(p, piece_edges::low_slot(p.edge)) == y;
-    }
-    false
-}
-
-fn is_type_p(p: Piece) -> bool
-    ensures { λ r. ⌜ r ≡ typeP (shapeOf p) ⌝ }
-{
-    let a = piece_edges::low_slot(p.edge);
-    let b = piece_edges::high_slot(p.edge);
-    let cd = opposite_on(a, b);
-    let c = piece_edges::low_slot(cd);
-    let d = piece_edges::high_slot(cd);
-    if other_marks_are(p, edge_between(a, c), edge_between(b, c)) {
-        return true;
-    }
-    other_marks_are(p, edge_between(a, d), edge_between(b, d))
-}
-
-fn is_set_p(p: Piece) -> bool
-    ensures { λ r. ⌜ r ≡ setP (shapeOf p) ⌝ }
-{
-    if is_type_p(p) {
-        return p.flag != 0;
-    }
-    false
-}
-
-// Step 4 of BisectTet: the mark of the new face.
-fn new_mark(p: Piece, k: u8) -> u8
-    ensures { λ r. ⌜ r ≡ newMark (shapeOf p) k ⌝ }
-{
-    if is_set_p(p) {
-        let acd = piece::mark_of(p, piece_edges::high_slot(p.edge));
-        let bcd = piece::mark_of(p, piece_edges::low_slot(p.edge));
-        return edge_between(k, shared_slot(acd, bcd));
-    }
-    opposite_on(other_end(p.edge, k), k)
-}
-
-// Step 5: the children's flag.
-fn child_flag(p: Piece) -> u8
-    ensures { λ r. ⌜ r ≡ childFlag (shapeOf p) ⌝ }
-{
-    if is_type_p(p) {
-        if p.flag == 0 {
-            return 1;
-        }
-        return 0;
-    }
-    0
-}
-
-// Step 2 on the inherited face, 4 on the new face, 3 on the cut faces.
-fn child_mark(p: Piece, k: u8, i: u8) -> u8
-    ensures { λ r. ⌜ r ≡ childMark (shapeOf p) k i ⌝ }
-{
-    if i == k {
-        return piece::mark_of(p, k);
-    }
-    if i == other_end(p.edge, k) {
-        return new_mark(p, k);
-    }
-    opposite_on(i, k)
-}
-
-// Step 1: the new vertex in slot k.
+// Step 1. "Bisect τ by joining the midpoint of its refinement edge to each of the two vertices not lying on the refinement edge. This
+// defines V(τ_i)": a child's corners.
 fn child_corners(p: Piece, w: u32, k: u8) -> [u32; 4]
     ensures { λ r. ⌜ r ≡ childCorners (p .corners) w k ⌝ }
 {
@@ -173,18 +30,76 @@ fn child_corners(p: Piece, w: u32, k: u8) -> [u32; 4]
     corners
 }
 
-// The child with the new vertex w in slot k.
+// Step 2. "The inherited face inherits its marked edge from the parent,
+fn inherited_mark(p: Piece, k: u8) -> u8
+    ensures { λ r. ⌜ r ≡ inheritedMark (shapeOf p) k ⌝ }
+{
+    piece::mark_of(p, k)
+}
+
+// and this marked edge is the refinement edge of the child."
+fn refinement_edge(p: Piece, k: u8) -> u8
+    ensures { λ r. ⌜ r ≡ refinementEdge (shapeOf p) k ⌝ }
+{
+    inherited_mark(p, k)
+}
+
+// Step 3. "On the cut faces of the children mark the edge opposite the new vertex with respect to the face."
+fn cut_mark(k: u8, i: u8) -> u8
+    ensures { λ r. ⌜ r ≡ cutMark k i ⌝ }
+{
+    piece_edges::opposite_on(i, k)
+}
+
+// Step 4. "The new face is marked the same way for both children. If the parent is type P_f, the marked edge is the edge connecting the new
+// vertex to the new refinement edge. Otherwise it is the edge opposite the new vertex." The children's refinement edges are the marks of
+// the parent's faces acd and bcd, and in type P these two share a corner that is on the new face.
+fn new_mark(p: Piece, k: u8) -> u8
+    ensures { λ r. ⌜ r ≡ newMark (shapeOf p) k ⌝ }
+{
+    if piece_types::is_set_p(p) {
+        let acd = piece::mark_of(p, piece_edges::high_slot(p.edge));
+        let bcd = piece::mark_of(p, piece_edges::low_slot(p.edge));
+        return piece_edges::edge_between(k, piece_edges::shared_slot(acd, bcd));
+    }
+    piece_edges::opposite_on(piece_edges::other_end(p.edge, k), k)
+}
+
+// Step 5. "The flag is set in the children if and only if the parent is type P_u."
+fn child_flag(p: Piece) -> u8
+    ensures { λ r. ⌜ r ≡ childFlag (shapeOf p) ⌝ }
+{
+    if piece_types::is_unset_p(p) {
+        return 1;
+    }
+    0
+}
+
+// "Mark the faces of the children as follows": which step marks face i.
+fn child_mark(p: Piece, k: u8, i: u8) -> u8
+    ensures { λ r. ⌜ r ≡ childMark (shapeOf p) k i ⌝ }
+{
+    if i == k {
+        return inherited_mark(p, k);
+    }
+    if i == piece_edges::other_end(p.edge, k) {
+        return new_mark(p, k);
+    }
+    cut_mark(k, i)
+}
+
+// One child, with the new vertex w in slot k: the steps put together. Its generation is the parent's and one more.
 fn child(p: Piece, w: u32, k: u8) -> Piece
     ensures { λ r. ⌜ r ≡ childOf p w k ⌝ }
 {
     let corners = child_corners(p, w, k);
+    let edge = refinement_edge(p, k);
     let marks = [
         child_mark(p, k, 0),
         child_mark(p, k, 1),
         child_mark(p, k, 2),
         child_mark(p, k, 3),
     ];
-    let edge = piece::mark_of(p, k);
     let flag = child_flag(p);
     let generation = ((p.generation as u32 + 1) % 256) as u8;
     Piece {
@@ -196,20 +111,14 @@ fn child(p: Piece, w: u32, k: u8) -> Piece
     }
 }
 
-// The cut: the two children that the new vertex w makes. The first has w in the slot of the end of higher vertex number.
+// The cut: both children. The first has w in the slot of the refinement edge's end of higher vertex number.
 pub fn cut(p: Piece, w: u32) -> Children
     ensures { λ r. ⌜ r ≡ cutOf p w ⌝ }
 {
-    let low = piece_edges::low_slot(p.edge);
-    let high = piece_edges::high_slot(p.edge);
-    if piece::corner(p, low) < piece::corner(p, high) {
-        return Children {
-            first: child(p, w, high),
-            second: child(p, w, low),
-        };
-    }
+    let u = piece::lower_end(p, p.edge);
+    let v = piece::higher_end(p, p.edge);
     Children {
-        first: child(p, w, low),
-        second: child(p, w, high),
+        first: child(p, w, v),
+        second: child(p, w, u),
     }
 }

@@ -7,7 +7,7 @@ use Rattle.piece_cut.proofs.child.Tie as tie
 
 returns : tie.Need-returns
 unfolding childOf childShape
-returns c = rw (← c .before .before .before .before .before .before .before .child-corners .ensures, ← c .before .before .before .before .before .before .child-mark .ensures, ← c .before .before .before .before .before .child-mark2 .ensures, ← c .before .before .before .before .child-mark3 .ensures, ← c .before .before .before .child-mark4 .ensures, ← c .before .before .mark-of .ensures, ← c .before .child-flag .ensures)
+returns c = rw (← c .before .before .before .before .before .before .before .child-corners .ensures, ← c .before .before .before .before .before .before .refinement-edge .ensures, ← c .before .before .before .before .before .child-mark .ensures, ← c .before .before .before .before .child-mark2 .ensures, ← c .before .before .before .child-mark3 .ensures, ← c .before .before .child-mark4 .ensures, ← c .before .child-flag .ensures)
 
 pub child-spec : {M : Type 1} → statement M
 child-spec = tie.close (tie.spec (λ c κs. search needs) (λ c κs. search needs) (λ c κs. search needs) (λ c κs. search needs) (λ c κs. search needs) (λ c κs. search needs) (λ c κs. search needs) (λ c. search needs) (λ c. search needs) (λ c. search needs) returns)

@@ -8,7 +8,7 @@ use Rattle.piece_cut.proofs.child_mark.Tie as tie
 
 returns : tie.Need-returns
 unfolding childMark
-returns c = rw (eq-eqb _ _ (c .before .if1 .taken)) (c .mark-of .ensures)
+returns c = rw (eq-eqb _ _ (c .before .if1 .taken)) (c .inherited-mark .ensures)
 
 returns-2 : tie.Need-returns-2
 unfolding childMark
@@ -16,7 +16,7 @@ returns-2 c = rw (ne-eqb _ _ (c .before .before .before .if1 .left), ← c .befo
 
 returns-3 : tie.Need-returns-3
 unfolding childMark
-returns-3 c = rw (ne-eqb _ _ (c .before .before .before .if1 .left), ← c .before .before .other-end .ensures, ne-eqb _ _ (c .before .if2 .left)) (c .opposite-on .ensures)
+returns-3 c = rw (ne-eqb _ _ (c .before .before .before .if1 .left), ← c .before .before .other-end .ensures, ne-eqb _ _ (c .before .if2 .left)) (c .cut-mark .ensures)
 
 pub child-mark-spec : {M : Type 1} → statement M
 child-mark-spec = tie.close (tie.spec (λ c κs. search needs) returns (λ c κs. search needs) (λ c κs. search needs) returns-2 (λ c κs. search needs) returns-3)

@@ -1,17 +1,19 @@
--- `piece_edges::low_slot` reads the table; a code above 5 has slot 0.
+-- `piece_edges::low_slot`: the codes of each arm have its slot in the table; a code above 5 has slot 0.
 -- Assumes nothing.
-use borrow.Author.Needs.{needs}
 use mathlib.Core.Path.{refl}
+use native.Mathlib.Omega.{arith}
+use Rattle.laws.specs.Below.{foldBelow, allBelow}
 use Rattle.piece_edges.specs.Edges.{lowSlot, low-past}
+use Rattle.piece_edges.specs.Tables.{same-from}
 use Rattle.piece_edges.proofs.low_slot.Statement.{statement}
 use Rattle.piece_edges.proofs.low_slot.Tie as tie
 
-returns : tie.Need-returns
-unfolding lowSlot
-returns c = refl
-
-returns-2 : tie.Need-returns-2
-returns-2 c = low-past (c .before .args .e) (c .if1 .left)
-
 pub low-slot-spec : {M : Type 1} → statement M
-low-slot-spec = tie.close (tie.spec (λ c. search needs) returns returns-2)
+unfolding lowSlot allBelow foldBelow
+low-slot-spec =
+    tie.close
+    (tie.spec
+    (λ c. rw (c .match .keys1))
+    (λ c. same-from lowSlot 0 0 3 refl _ (omega arith) (c .if1 .taken))
+    (λ c. same-from lowSlot 1 3 2 refl _ (c .before .if1 .left) (c .if2 .taken))
+    (λ c. low-past (c .before .before .before .args .e) (omega arith)))

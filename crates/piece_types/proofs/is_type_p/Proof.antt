@@ -1,9 +1,9 @@
--- `piece_cut::is_type_p`: each way out is one case of the definition, at what the calls return.
+-- `piece_types::is_type_p`: each way out is one case of the definition, at what the calls return.
 -- Assumes nothing.
 use borrow.Author.Needs.{needs}
 use Rattle.piece.specs.Shape.{typeP, slotA, slotB, slotC, slotD, edgeCD}
-use Rattle.piece_cut.proofs.is_type_p.Statement.{statement}
-use Rattle.piece_cut.proofs.is_type_p.Tie as tie
+use Rattle.piece_types.proofs.is_type_p.Statement.{statement}
+use Rattle.piece_types.proofs.is_type_p.Tie as tie
 
 returns : tie.Need-returns
 unfolding typeP slotA slotB slotC slotD edgeCD

@@ -1,9 +1,9 @@
--- `piece_cut::is_set_p`: each way out is one case of the definition, at what the calls return.
+-- `piece_types::is_set_p`: each way out is one case of the definition, at what the calls return.
 -- Assumes nothing.
 use borrow.Author.Needs.{needs}
 use Rattle.piece.specs.Shape.{setP}
-use Rattle.piece_cut.proofs.is_set_p.Statement.{statement}
-use Rattle.piece_cut.proofs.is_set_p.Tie as tie
+use Rattle.piece_types.proofs.is_set_p.Statement.{statement}
+use Rattle.piece_types.proofs.is_set_p.Tie as tie
 
 returns : tie.Need-returns
 unfolding setP

@@ -1,10 +1,10 @@
--- `piece_cut::other_end`: each way out is one case of the definition, at what the calls return.
+-- `piece_edges::other_end`: each way out is one case of the definition, at what the calls return.
 -- Assumes nothing.
 use borrow.Author.Needs.{needs}
 use borrow.Author.Tests.{eq-eqb, ne-eqb}
 use Rattle.piece_edges.specs.Edges.{otherEnd}
-use Rattle.piece_cut.proofs.other_end.Statement.{statement}
-use Rattle.piece_cut.proofs.other_end.Tie as tie
+use Rattle.piece_edges.proofs.other_end.Statement.{statement}
+use Rattle.piece_edges.proofs.other_end.Tie as tie
 
 returns : tie.Need-returns
 unfolding otherEnd

@@ -1,10 +1,10 @@
--- `piece_cut::other_marks_are`: each way out is one case of the definition, at what the calls return.
+-- `piece_types::other_marks_are`: each way out is one case of the definition, at what the calls return.
 -- Assumes nothing.
 use borrow.Author.Needs.{needs}
 use borrow.Author.Tests.{eq-eqb, ne-eqb}
 use Rattle.piece.specs.Shape.{otherMarksAre, slotA, slotB}
-use Rattle.piece_cut.proofs.other_marks_are.Statement.{statement}
-use Rattle.piece_cut.proofs.other_marks_are.Tie as tie
+use Rattle.piece_types.proofs.other_marks_are.Statement.{statement}
+use Rattle.piece_types.proofs.other_marks_are.Tie as tie
 
 returns : tie.Need-returns
 unfolding otherMarksAre slotA slotB
