@@ -274,11 +274,11 @@ module _ (k : ℕ) (p : Piece Name) (m : Macro k p) (apart : Different p) where
 -- ---- a face that lies in a face of M
 
 -- The ends of e are the two slots of face i other than t.
-abbrev endsBeside : ℕ → ℕ → ℕ → Bool
+abbrev pub endsBeside : ℕ → ℕ → ℕ → Bool
 endsBeside i t e =
     not (eqb (lowSlot e) (highSlot e)) && allBelow 4 (λ k. eqb k i || (eqb k t || (eqb k (lowSlot e) || eqb k (highSlot e))))
 
-ends-beside : (i t e : ℕ) → i < 4 → t < 4 → e < 6 → t ≢ i → opposite i t e ≡ true → endsBeside i t e ≡ true
+pub ends-beside : (i t e : ℕ) → i < 4 → t < 4 → e < 6 → t ≢ i → opposite i t e ≡ true → endsBeside i t e ≡ true
 unfolding allBelow foldBelow opposite onFace hasSlot lowSlot highSlot
 ends-beside i t e hi ht he d o =
     let at₀ = all-at (λ i. allBelow 4 λ t. allBelow 6 λ e. onlyIf (not (eqb t i) && opposite i t e) (endsBeside i t e)) 4 i refl hi in

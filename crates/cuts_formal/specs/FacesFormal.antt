@@ -106,13 +106,13 @@ pub data Kind (s : Shape) (q : Piece ℕ) (i : ℕ) : Type 0 where
   inside : Inside s q i → Kind s q i
 
 -- The tests of these, and what each says.
-isNew : Piece ℕ → ℕ → Bool
+unfoldable pub isNew : Piece ℕ → ℕ → Bool
 isNew q i = someSlot i (λ k. ltb 3 (q .corner k))
 
 isInherited : Shape → Piece ℕ → ℕ → Bool
 isInherited s q i = eqb (mark (q .shape) i) (mark s i) && eachSlot i (λ k. eqb (q .corner k) k)
 
-isAcross : Piece ℕ → ℕ → Bool
+unfoldable pub isAcross : Piece ℕ → ℕ → Bool
 isAcross q i = isNew q i && allBelow 4 (under q i)
 
 abbrev oneOf : Shape → Piece ℕ → ℕ → ℕ → ℕ → Bool
@@ -146,7 +146,7 @@ is-inherited s q i e =
       marked = eqb-true (mark (q .shape) i) (mark s i) (and-left (eqb (mark (q .shape) i) (mark s i)) _ e);
     }
 
-is-across : (q : Piece ℕ) (i : ℕ) → isAcross q i ≡ true → Across q i
+pub is-across : (q : Piece ℕ) (i : ℕ) → isAcross q i ≡ true → Across q i
 unfolding isAcross
 is-across q i e =
     record { new = is-new q i (and-left (isNew q i) _ e); all = λ x l. all-at (under q i) 4 x (and-right (isNew q i) (allBelow 4 (under q i)) e) l }

@@ -32,7 +32,7 @@ base-once : (m n : ℕ) → Names.base m ≡ Names.base n → m ≡ n
 base-once m n e = cc
 
 -- Of two numbers one is less, or they are one.
-before-or-same : (r s : ℕ) → (r < s) ⊎ ((r ≡ s) ⊎ (s < r))
+pub before-or-same : (r s : ℕ) → (r < s) ⊎ ((r ≡ s) ⊎ (s < r))
 before-or-same r s =
     ⊎-elim
     (λ t. inl (ltb-true r s t))
