@@ -79,15 +79,14 @@ fn unmarked(numbers: &[u16]) -> Record {
 /// "The refinement edge is the first-ranked of the piece, a face's mark the first-ranked of the
 /// face."
 fn marked(mesh: &Mesh, record: &Record) -> Record {
-    let first_ranked = |codes: &mut dyn Iterator<Item = u8>| {
-        codes
-            .min_by_key(|&code| rank(mesh, record, code))
-            .unwrap_or(0)
-    };
+    let mut ranked = [0, 1, 2, 3, 4, 5].map(|code| (rank(mesh, record, code), code));
+    ranked.sort_unstable();
+    // The six codes, first-ranked first.
+    let codes = ranked.map(|(_, code)| code);
+    let first_on = |face| codes.into_iter().find(|&code| on_face(code, face));
     Record {
-        edge: first_ranked(&mut (0..6)),
-        marks: [0, 1, 2, 3]
-            .map(|face| first_ranked(&mut (0..6).filter(|&code| on_face(code, face)))),
+        edge: codes[0],
+        marks: [0, 1, 2, 3].map(|face| first_on(face).unwrap_or(0)),
         ..*record
     }
 }

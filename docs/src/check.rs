@@ -84,7 +84,7 @@ pub(crate) fn judge(bytes: &[u8]) -> Result<(Mesh, Pairs), Report> {
 /// 4: "base coordinate off the grid, base parent not 65,535, two base vertices at one place; made
 /// vertex without p < q < its own number, not exactly halfway, or a parent pair used twice".
 pub(crate) fn rule_4_holds(mesh: &Mesh, pairs: &Pairs) -> bool {
-    let mut base_places = HashSet::new();
+    let mut base_places = HashSet::with_capacity(mesh.base_vertices);
     let base_holds = mesh.vertices.iter().take(mesh.base_vertices).all(|vertex| {
         vertex.place.into_iter().all(on_grid)
             && vertex.parents == [NO_NUMBER; 2]
@@ -144,8 +144,9 @@ fn rule_6_holds(mesh: &Mesh) -> bool {
 /// 7: "a face in three base records, two base records with the same four corners, or a shared face
 /// with two marks". Marks are compared by their two vertices, not by their codes.
 pub(crate) fn rule_7_holds(mesh: &Mesh) -> bool {
-    let mut pieces = HashSet::new();
-    let mut faces = HashMap::new();
+    let mut pieces = HashSet::with_capacity(mesh.base_records);
+    // Four faces a record at most, since faces are shared: the map never grows.
+    let mut faces = HashMap::with_capacity(4 * mesh.base_records);
     base(mesh).all(|record| {
         let mut corners = record.corners;
         corners.sort_unstable();
@@ -189,7 +190,7 @@ pub(crate) fn rule_8_holds(mesh: &Mesh) -> bool {
 /// of no cut record's refinement edge; a generation above 15".
 fn rule_9_holds(mesh: &Mesh, pairs: &Pairs) -> bool {
     let mut child_of = vec![0u32; mesh.records.len()];
-    let mut midpoints = HashSet::new();
+    let mut is_midpoint = vec![false; mesh.vertices.len()];
     for (number, record) in mesh.records.iter().enumerate() {
         if record.generation > 15 {
             return false;
@@ -213,13 +214,18 @@ fn rule_9_holds(mesh: &Mesh, pairs: &Pairs) -> bool {
         for child in child_of.iter_mut().skip(first).take(2) {
             *child += 1;
         }
-        midpoints.insert(w);
+        if let Some(seen) = is_midpoint.get_mut(usize::from(w)) {
+            *seen = true;
+        }
     }
     child_of
         .iter()
         .skip(mesh.base_records)
         .all(|&count| count == 1)
-        && midpoints.len() == mesh.vertices.len() - mesh.base_vertices
+        && is_midpoint
+            .iter()
+            .skip(mesh.base_vertices)
+            .all(|&seen| seen)
 }
 
 /// "Let w be the midpoint of the refinement edge": the vertex with that parent pair, and the two

@@ -1,8 +1,9 @@
 //! The proved services through their C functions, and meshes to compare them on with the second
-//! program: built, refined, renumbered and damaged at random.
+//! program: built, refined, renumbered and damaged at random. The picture of their times.
 
 pub mod damage;
 pub mod meshes;
+pub mod plot;
 pub mod random;
 pub mod renumber;
 

@@ -337,9 +337,21 @@ pub fn scattered(vertices: usize) -> Plain {
 /// The first pieces of a block of 8 by 8 by 8 cubes, from 1 to 3,072, and the vertices they use: few for
 /// so many pieces.
 pub fn block(pieces: usize) -> Plain {
-    let mut plain = cubes([8, 8, 8], 64);
+    first_pieces(cubes([8, 8, 8], 64), pieces)
+}
+
+/// A block of cubes, so many to each side, at least 2, without the last two cubes: so that of 8 to a side
+/// too the first cube's diagonal can be cut, which brings twelve records.
+pub fn cubes_but_two(side: usize) -> Plain {
+    let whole = cubes([side; 3], 64);
+    let pieces = whole.pieces.len() - 2 * CUBE.len();
+    first_pieces(whole, pieces)
+}
+
+/// The first pieces of a mesh whose vertices are numbered as the pieces come upon them, at least one, and the
+/// vertices they use.
+fn first_pieces(mut plain: Plain, pieces: usize) -> Plain {
     plain.pieces.truncate(pieces);
-    // Vertices are numbered as the pieces come upon them.
     let last = plain.pieces.iter().flatten().max();
     let last = usize::from(*last.expect("a piece"));
     plain.places.truncate(last + 1);

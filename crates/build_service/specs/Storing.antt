@@ -21,6 +21,7 @@ use Rattle.stored.specs.Layout.{vertexWidth, recordWidth, limits, headerBytes, 
 use Rattle.stored.specs.Held.{into-base, not-into-base, into-growth, not-into-growth}
 use Rattle.stored.specs.Fitting.{U32, HeaderFits}
 use Rattle.stored.specs.Entries.{vertex-wide, record-wide}
+use Rattle.check_refusals.specs.Bounded.{Bounded}
 use Rattle.check_refusals.specs.Tables.{Tables, tablesOf}
 use Rattle.check_refusals.specs.Refusals.{wrongCounts, badVertices, badBaseRecords, badBaseFaces, unusedVertices}
 use Rattle.check_refusals.specs.Check.{row, firstBroken}
@@ -176,8 +177,9 @@ module _ (job : ℕ) (coordinates : List ℤ) (corners : List ℕ) (right : wron
       ap (take (recordWidth * h .records)) then ∙ r ∙ ap (λ (n : ℕ). joined recordBytes (listBelow n (plainRecord coordinates corners))) numbered in
       λ i. headerBytes (is i) ++ vs i ++ rs i
 
--- What is judged and stored: the header's numbers fit, the tables are held by their work areas, and the output buffer is clear.
+-- What is judged and stored: the header's counts are within the limits and its numbers fit, the tables are held by their work areas, and the output buffer is clear.
 pub record Ready (h : Header) (vertices records out : List ℕ) : Type 0 where
+  pub bounded : Bounded h
   pub fits : HeaderFits h
   pub vertices-there : vertexWidth * h .vertices ≤ length vertices
   pub records-there : recordWidth * h .records ≤ length records

@@ -8,6 +8,7 @@ ghost use lib.ListN.{length, replicate};
 ghost use Rattle.stored.specs.Layout.{limits, assembled};
 ghost use Rattle.check_refusals.specs.Tables.{tables};
 ghost use Rattle.check_refusals.specs.Refusals.{wrongCounts};
+ghost use Rattle.check_refusals.specs.Bounded.{Bounded};
 ghost use Rattle.build_service.specs.Build.{notWhole, plainHeader, plainBytes, buildNumber, buildBytes};
 ghost use Rattle.build_service.specs.Storing.{verticesPut, recordsPut, Ready, judgedNumber, laterNumber, laterBytes};
 
@@ -101,6 +102,7 @@ fn put_records(
 
 // Check's own rules 4, 5, 7 and 8, and 0 where none is broken.
 fn judged<'a>(h: Header, l: Layout, base: &'a [u8], grown: &'a [u8]) -> u32
+    requires { ⌜ Bounded h ⌝ }
     ensures { λ r. ⌜ r ≡ judgedNumber (tables h l (now (base .entry)) (now (grown .entry))) ⌝ }
 {
     if check_places::bad_vertices(h, l, base, grown) {

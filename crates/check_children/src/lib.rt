@@ -1,25 +1,49 @@
 // Refusal 9: children that are not what cutting gives, records without their one parent, vertices that halve no cut record's refinement
 // edge, generations beyond the last.
+//
+// The vertex halfway on an edge is found along the links by parent pair, which are filled once. Two tables of counts, filled from the cut
+// records, say whose child a record is and which vertices are halfway on a refinement edge.
+use piece::Ends;
 use piece::Piece;
 use stored::Header;
 use stored::Layout;
 use stored::Record;
 ghost use mathlib.Core.Path.{_≡_};
-ghost use Rattle.laws.specs.Below.{anyBelow, countBelow, bit};
+ghost use mathlib.Core.Bool.{false};
+ghost use Rattle.laws.specs.Below.{anyBelow};
 ghost use Rattle.piece.specs.Same.{samePiece};
 ghost use Rattle.stored.specs.Layout.{recordIn};
-ghost use Rattle.check_refusals.specs.Tables.{tables};
+ghost use Rattle.check_refusals.specs.Tables.{tables, vertexWith, refinementEnds};
+ghost use Rattle.check_refusals.specs.Bounded.{orBeyond, Room};
 ghost use Rattle.check_refusals.specs.Refusals.{
   badChildren,
-  isChildOf,
-  notChildOfOne,
   tooDeep,
   badCut,
   badRecord,
-  isMidpointOf,
-  noMidpoint,
   badCuts,
 };
+ghost use Rattle.check_children.specs.Counts.{countsBelow};
+ghost use Rattle.check_children.specs.Children.{childrenCounted, notChildOfOneBy, badRecordBy};
+ghost use Rattle.check_children.specs.Linked.{Linked};
+ghost use Rattle.check_children.specs.Midpoints.{midpointCounted, noMidpointBy};
+
+// The vertex with these parents; the count of vertices where there is none.
+fn vertex_with<'a>(
+    h: Header,
+    l: Layout,
+    base: &'a [u8],
+    grown: &'a [u8],
+    heads: &'a [u16],
+    nexts: &'a [u16],
+    ends: Ends,
+) -> usize
+    requires { ⌜ Linked (tables h l (now base) (now grown)) (now heads) (now nexts) ⌝ }
+    ensures { λ r. ⌜ r ≡ vertexWith (tables h l (now (base .entry)) (now (grown .entry))) ends ⌝ }
+{
+    check_parents::first_with(h, l, base, grown, heads, nexts, ends)
+}
+
+// ---- records
 
 // Whether record c holds this piece.
 fn holds<'a>(l: Layout, base: &'a [u8], grown: &'a [u8], c: usize, p: Piece) -> bool
@@ -30,6 +54,7 @@ fn holds<'a>(l: Layout, base: &'a [u8], grown: &'a [u8], c: usize, p: Piece) -> 
     piece_same::same_piece(there, p)
 }
 
+// w is the vertex halfway on record n's refinement edge; r is record n.
 fn bad_children<'a>(
     h: Header,
     l: Layout,
@@ -37,12 +62,12 @@ fn bad_children<'a>(
     grown: &'a [u8],
     n: usize,
     r: Record,
+    w: usize,
 ) -> bool
+    requires { ⌜ w ≡ vertexWith (tables h l (now base) (now grown)) (refinementEnds (r .piece)) ⌝ }
     ensures { λ b. ⌜ b ≡ badChildren (tables h l (now (base .entry)) (now (grown .entry))) n r ⌝ }
 {
-    let p = r.piece;
     let first = r.first_child as usize;
-    let w = check_parents::vertex_with(h, l, base, grown, piece::ends_of(p, p.edge));
     if h.vertices as usize <= w {
         return true;
     }
@@ -52,6 +77,7 @@ fn bad_children<'a>(
     if h.records as usize <= first + 1 {
         return true;
     }
+    let p = r.piece;
     let given = piece_cut::cut(p, w as u32);
     let one = given.first;
     let other = given.second;
@@ -61,121 +87,91 @@ fn bad_children<'a>(
     !holds(l, base, grown, first + 1, other)
 }
 
-fn is_child_of<'a>(l: Layout, base: &'a [u8], grown: &'a [u8], c: usize, n: usize) -> bool
-    ensures { λ b. ⌜ b ≡ isChildOf (recordIn l (now (base .entry)) (now (grown .entry)) n) c ⌝ }
-{
-    if check_refusals::is_leaf(l, base, grown, n) {
-        return false;
-    }
-    let first = stored_entries::first_child_in(l, base, grown, n) as usize;
-    if first == c {
-        return true;
-    }
-    first + 1 == c
-}
-
-fn times_child<'a>(h: Header, l: Layout, base: &'a [u8], grown: &'a [u8], c: usize) -> usize
-    ensures { λ b. ⌜ b ≡ countBelow (h .records) (λ n. isChildOf (recordIn l (now (base .entry)) (now (grown .entry)) n) c) ⌝ }
-{
-    let count = h.records as usize;
-    let mut n: usize = 0;
-    let mut times: usize = 0;
-    while n < count {
-        times += one_if(is_child_of(l, base, grown, c, n));
-        n += 1;
-    }
-    times
-}
-
-fn one_if(b: bool) -> usize
-    ensures { λ r. ⌜ r ≡ bit b ⌝ }
-{
-    if b { 1 } else { 0 }
-}
-
-fn not_child_of_one<'a>(h: Header, l: Layout, base: &'a [u8], grown: &'a [u8], c: usize) -> bool
-    ensures { λ b. ⌜ b ≡ notChildOfOne (tables h l (now (base .entry)) (now (grown .entry))) c ⌝ }
-{
-    if c < h.base_records as usize {
-        return false;
-    }
-    times_child(h, l, base, grown, c) != 1
-}
-
-fn too_deep<'a>(l: Layout, base: &'a [u8], grown: &'a [u8], n: usize) -> bool
-    ensures { λ b. ⌜ b ≡ tooDeep (recordIn l (now (base .entry)) (now (grown .entry)) n .piece) ⌝ }
-{
-    let record = stored_entries::record_in(l, base, grown, n);
-    let p = record.piece;
-    piece::LAST_GENERATION < p.generation
-}
-
-fn bad_cut<'a>(h: Header, l: Layout, base: &'a [u8], grown: &'a [u8], n: usize) -> bool
-    ensures { λ b. ⌜ b ≡ badCut (tables h l (now (base .entry)) (now (grown .entry))) n ⌝ }
-{
-    if check_refusals::is_leaf(l, base, grown, n) {
-        return false;
-    }
-    bad_children(
-        h,
-        l,
-        base,
-        grown,
-        n,
-        stored_entries::record_in(l, base, grown, n),
-    )
-}
-
-fn bad_record<'a>(h: Header, l: Layout, base: &'a [u8], grown: &'a [u8], n: usize) -> bool
-    ensures { λ b. ⌜ b ≡ badRecord (tables h l (now (base .entry)) (now (grown .entry))) n ⌝ }
-{
-    if bad_cut(h, l, base, grown, n) {
-        return true;
-    }
-    if not_child_of_one(h, l, base, grown, n) {
-        return true;
-    }
-    too_deep(l, base, grown, n)
-}
-
-fn bad_records<'a>(h: Header, l: Layout, base: &'a [u8], grown: &'a [u8]) -> bool
-    ensures { λ b. ⌜ b ≡ anyBelow (h .records) (badRecord (tables h l (now (base .entry)) (now (grown .entry)))) ⌝ }
-{
-    let count = h.records as usize;
-    let mut n: usize = 0;
-    while n < count {
-        if bad_record(h, l, base, grown, n) {
-            return true;
-        }
-        n += 1;
-    }
-    false
-}
-
-fn is_midpoint_of<'a>(
+// A cut record counts one more at the vertex halfway on its refinement edge.
+fn bad_cut<'a>(
+    used: &mut [u16],
     h: Header,
     l: Layout,
     base: &'a [u8],
     grown: &'a [u8],
-    v: usize,
+    heads: &'a [u16],
+    nexts: &'a [u16],
     n: usize,
 ) -> bool
-    ensures { λ b. ⌜ b ≡ isMidpointOf (tables h l (now (base .entry)) (now (grown .entry))) v n ⌝ }
+    requires { ⌜ Linked (tables h l (now base) (now grown)) (now heads) (now nexts) ⌝ }
+    ensures { λ b. ⌜ b ≡ badCut (tables h l (now (base .entry)) (now (grown .entry))) n ⌝ }
+    ensures { λ _. ⌜ now (used .exit) ≡ midpointCounted (tables h l (now (base .entry)) (now (grown .entry))) (now (used .entry)) n ⌝ }
 {
     if check_refusals::is_leaf(l, base, grown, n) {
         return false;
     }
     let ends = check_refusals::refinement_ends(l, base, grown, n);
-    check_parents::has_parents(h, l, base, grown, ends, v)
+    let w = vertex_with(h, l, base, grown, heads, nexts, ends);
+    chains::count(used, w);
+    let record = stored_entries::record_in(l, base, grown, n);
+    bad_children(h, l, base, grown, n, record, w)
 }
 
-fn is_midpoint<'a>(h: Header, l: Layout, base: &'a [u8], grown: &'a [u8], v: usize) -> bool
-    ensures { λ b. ⌜ b ≡ anyBelow (h .records) (isMidpointOf (tables h l (now (base .entry)) (now (grown .entry))) v) ⌝ }
+// Whether record c is beyond the base, and the table does not have it as the child of exactly one.
+fn not_child_of_one(h: Header, times: &[u16], c: usize) -> bool
+    ensures { λ b. ⌜ b ≡ notChildOfOneBy (h .«base_records») (now (times .entry)) c ⌝ }
+{
+    if c < h.base_records as usize {
+        return false;
+    }
+    chains::at(times, c) != 1
+}
+
+fn too_deep<'a>(l: Layout, base: &'a [u8], grown: &'a [u8], n: usize) -> bool
+    ensures { λ b. ⌜ b ≡ tooDeep (recordIn l (now (base .entry)) (now (grown .entry)) n .piece) ⌝ }
+{
+    let generation = stored_entries::generation_in(l, base, grown, n);
+    piece::LAST_GENERATION < generation
+}
+
+fn bad_record<'a>(
+    used: &mut [u16],
+    h: Header,
+    l: Layout,
+    base: &'a [u8],
+    grown: &'a [u8],
+    heads: &'a [u16],
+    nexts: &'a [u16],
+    times: &'a [u16],
+    n: usize,
+) -> bool
+    requires { ⌜ Linked (tables h l (now base) (now grown)) (now heads) (now nexts) ⌝ }
+    ensures { λ b. ⌜ b ≡ badRecordBy (tables h l (now (base .entry)) (now (grown .entry))) (now (times .entry)) n ⌝ }
+    ensures { λ _. ⌜ now (used .exit) ≡ midpointCounted (tables h l (now (base .entry)) (now (grown .entry))) (now (used .entry)) n ⌝ }
+{
+    if bad_cut(used, h, l, base, grown, heads, nexts, n) {
+        return true;
+    }
+    if not_child_of_one(h, times, n) {
+        return true;
+    }
+    too_deep(l, base, grown, n)
+}
+
+// Where no record is refused, all have counted.
+fn any_bad_record<'a>(
+    used: &mut [u16],
+    h: Header,
+    l: Layout,
+    base: &'a [u8],
+    grown: &'a [u8],
+    heads: &'a [u16],
+    nexts: &'a [u16],
+    times: &'a [u16],
+) -> bool
+    requires { ⌜ Linked (tables h l (now base) (now grown)) (now heads) (now nexts) ⌝ }
+    ensures { λ b. ⌜ b ≡ anyBelow (h .records) (badRecordBy (tables h l (now (base .entry)) (now (grown .entry))) (now (times .entry))) ⌝ }
+    ensures { λ b. ⌜ (b ≡ false → now (used .exit) ≡ countsBelow (midpointCounted (tables h l (now (base .entry)) (now (grown .entry)))) (now (used .entry)) (h .records)) ⌝ }
 {
     let count = h.records as usize;
     let mut n: usize = 0;
     while n < count {
-        if is_midpoint_of(h, l, base, grown, v, n) {
+        if bad_record(used, h, l, base, grown, heads, nexts, times, n) {
             return true;
         }
         n += 1;
@@ -183,22 +179,98 @@ fn is_midpoint<'a>(h: Header, l: Layout, base: &'a [u8], grown: &'a [u8], v: usi
     false
 }
 
-fn no_midpoint<'a>(h: Header, l: Layout, base: &'a [u8], grown: &'a [u8], v: usize) -> bool
-    ensures { λ b. ⌜ b ≡ noMidpoint (tables h l (now (base .entry)) (now (grown .entry))) v ⌝ }
+// One more at both children of record n, if it is cut.
+fn count_children<'a>(times: &mut [u16], l: Layout, base: &'a [u8], grown: &'a [u8], n: usize)
+    ensures { λ _. ⌜ now (times .exit) ≡ childrenCounted (now (times .entry)) (recordIn l (now (base .entry)) (now (grown .entry)) n) ⌝ }
+{
+    let child = stored_entries::first_child_in(l, base, grown, n);
+    if child == stored::NONE {
+        return;
+    }
+    let first = child as usize;
+    chains::count(times, first);
+    chains::count(times, first + 1);
+}
+
+fn count_all_children<'a>(
+    times: &mut [u16],
+    l: Layout,
+    base: &'a [u8],
+    grown: &'a [u8],
+    count: usize,
+)
+    ensures { λ _. ⌜ now (times .exit) ≡ countsBelow (λ t n. childrenCounted t (recordIn l (now (base .entry)) (now (grown .entry)) n)) (now (times .entry)) count ⌝ }
+{
+    let mut n: usize = 0;
+    while n < count {
+        count_children(times, l, base, grown, n);
+        n += 1;
+    }
+}
+
+fn bad_records<'a>(
+    used: &mut [u16],
+    h: Header,
+    l: Layout,
+    base: &'a [u8],
+    grown: &'a [u8],
+    heads: &'a [u16],
+    nexts: &'a [u16],
+) -> bool
+    requires { ⌜ Linked (tables h l (now base) (now grown)) (now heads) (now nexts) ⌝ }
+    requires { ⌜ Room h ⌝ }
+    ensures { λ b. ⌜ b ≡ anyBelow (h .records) (badRecord (tables h l (now (base .entry)) (now (grown .entry)))) ⌝ }
+    ensures { λ b. ⌜ (b ≡ false → now (used .exit) ≡ countsBelow (midpointCounted (tables h l (now (base .entry)) (now (grown .entry)))) (now (used .entry)) (h .records)) ⌝ }
+{
+    let mut times = [0u16; stored::RECORDS];
+    count_all_children(&mut times, l, base, grown, h.records as usize);
+    any_bad_record(used, h, l, base, grown, heads, nexts, &times)
+}
+
+// ---- made vertices
+
+// Whether vertex v is made, and the table does not have the first vertex with its parents.
+fn no_midpoint<'a>(
+    h: Header,
+    l: Layout,
+    base: &'a [u8],
+    grown: &'a [u8],
+    heads: &'a [u16],
+    nexts: &'a [u16],
+    used: &'a [u16],
+    v: usize,
+) -> bool
+    requires { ⌜ Linked (tables h l (now base) (now grown)) (now heads) (now nexts) ⌝ }
+    ensures { λ b. ⌜ b ≡ noMidpointBy (tables h l (now (base .entry)) (now (grown .entry))) (now (used .entry)) v ⌝ }
 {
     if v < h.base_vertices as usize {
         return false;
     }
-    !is_midpoint(h, l, base, grown, v)
+    let parents = stored_entries::parents_in(l, base, grown, v);
+    let ends = Ends {
+        lower: parents.p,
+        higher: parents.q,
+    };
+    let w = vertex_with(h, l, base, grown, heads, nexts, ends);
+    chains::at(used, w) == 0
 }
 
-fn no_midpoints<'a>(h: Header, l: Layout, base: &'a [u8], grown: &'a [u8]) -> bool
-    ensures { λ b. ⌜ b ≡ anyBelow (h .vertices) (noMidpoint (tables h l (now (base .entry)) (now (grown .entry)))) ⌝ }
+fn no_midpoints<'a>(
+    h: Header,
+    l: Layout,
+    base: &'a [u8],
+    grown: &'a [u8],
+    heads: &'a [u16],
+    nexts: &'a [u16],
+    used: &'a [u16],
+) -> bool
+    requires { ⌜ Linked (tables h l (now base) (now grown)) (now heads) (now nexts) ⌝ }
+    ensures { λ b. ⌜ b ≡ anyBelow (h .vertices) (noMidpointBy (tables h l (now (base .entry)) (now (grown .entry))) (now (used .entry))) ⌝ }
 {
     let count = h.vertices as usize;
     let mut v: usize = 0;
     while v < count {
-        if no_midpoint(h, l, base, grown, v) {
+        if no_midpoint(h, l, base, grown, heads, nexts, used, v) {
             return true;
         }
         v += 1;
@@ -206,11 +278,19 @@ fn no_midpoints<'a>(h: Header, l: Layout, base: &'a [u8], grown: &'a [u8]) -> bo
     false
 }
 
+// The tables have a place for each possible record and vertex; counts that refusal 3 refuses are refused at once.
 pub fn bad_cuts<'a>(h: Header, l: Layout, base: &'a [u8], grown: &'a [u8]) -> bool
-    ensures { λ b. ⌜ b ≡ badCuts (tables h l (now (base .entry)) (now (grown .entry))) ⌝ }
+    ensures { λ b. ⌜ b ≡ orBeyond h (badCuts (tables h l (now (base .entry)) (now (grown .entry)))) ⌝ }
 {
-    if bad_records(h, l, base, grown) {
+    if check_refusals::is_beyond(h) {
         return true;
     }
-    no_midpoints(h, l, base, grown)
+    let mut heads = [0u16; check_parents::PAIR_HEADS];
+    let mut nexts = [0u16; stored::VERTICES];
+    let mut used = [0u16; stored::VERTICES];
+    check_parents::link_pairs(h, l, base, grown, &mut heads, &mut nexts);
+    if bad_records(&mut used, h, l, base, grown, &heads, &nexts) {
+        return true;
+    }
+    no_midpoints(h, l, base, grown, &heads, &nexts, &used)
 }

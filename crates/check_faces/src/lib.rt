@@ -1,140 +1,244 @@
 // Refusal 7: a face in three base records, two base records with the same four corners, a shared face with two marks.
+//
+// Every face of the records has a number, f for face f % 4 of record f / 4. The faces of the records so far are linked by their keys, and a face of the next
+// record is looked for along the links of its key alone.
+use check_shared::Face;
 use piece::Piece;
 use stored::Header;
 use stored::Layout;
 ghost use mathlib.Core.Path.{_≡_};
-ghost use mathlib.Core.Bool.{_&&_};
-ghost use Rattle.stored.specs.Layout.{recordIn};
+ghost use Prim.Native.Nat.{_≤_, _<_};
+ghost use Rattle.laws.specs.Below.{anyBelow};
+ghost use Rattle.laws.specs.Links.{linksOf};
+ghost use Rattle.stored.specs.Layout.{limits, recordIn};
 ghost use Rattle.check_refusals.specs.Tables.{tables};
-ghost use Rattle.check_refusals.specs.Refusals.{hasFace, faceBefore, faceInThree, badTogether, badWith, badFaces, badBaseFaces};
+ghost use Rattle.check_refusals.specs.Refusals.{badFaces, badBaseFaces};
+ghost use Rattle.check_refusals.specs.Bounded.{Room, orBeyond};
+ghost use Rattle.check_faces.specs.Faces.{isFace, isBefore, badFace};
+ghost use Rattle.check_faces.specs.Linked.{keysOf, beforeAlong, badAlong, badLinked, pushedFaces, Linked};
 
-fn record_has_face<'a>(
-    l: Layout,
-    base: &'a [u8],
-    grown: &'a [u8],
-    q: Piece,
-    i: u8,
-    s: usize,
-) -> bool
-    ensures { λ r. ⌜ r ≡ hasFace q i (recordIn l (now (base .entry)) (now (grown .entry)) s .piece) ⌝ }
-{
-    let record = stored_entries::record_in(l, base, grown, s);
-    let p = record.piece;
-    check_shared::has_face(q, i, p)
+// How many faces the records may have.
+const FACES: usize = 4 * stored::RECORDS;
+
+// The keys of a piece's four faces.
+struct Keys {
+    first: usize,
+    second: usize,
+    third: usize,
+    fourth: usize,
 }
 
-fn face_before<'a>(l: Layout, base: &'a [u8], grown: &'a [u8], q: Piece, i: u8, r: usize) -> bool
-    ensures { λ b. ⌜ b ≡ faceBefore (recordIn l (now (base .entry)) (now (grown .entry))) q i r ⌝ }
+fn keys_of(p: [u32; 4]) -> Keys
+    ensures { λ r. ⌜ r ≡ keysOf p ⌝ }
 {
-    let mut s: usize = 0;
-    while s < r {
-        if record_has_face(l, base, grown, q, i, s) {
-            return true;
-        }
-        s += 1;
+    Keys {
+        first: check_shared::face_key(check_shared::face_of(p, 0)),
+        second: check_shared::face_key(check_shared::face_of(p, 1)),
+        third: check_shared::face_key(check_shared::face_of(p, 2)),
+        fourth: check_shared::face_key(check_shared::face_of(p, 3)),
     }
-    false
 }
 
-fn third_at<'a>(
-    l: Layout,
-    base: &'a [u8],
-    grown: &'a [u8],
-    q: Piece,
-    r: usize,
-    p: Piece,
-    i: u8,
-) -> bool
-    ensures { λ b. ⌜ b ≡ (hasFace q i p && faceBefore (recordIn l (now (base .entry)) (now (grown .entry))) q i r) ⌝ }
+// Whether face f is this one.
+fn is_face<'a>(l: Layout, base: &'a [u8], grown: &'a [u8], face: Face, f: usize) -> bool
+    ensures { λ b. ⌜ b ≡ isFace (recordIn l (now (base .entry)) (now (grown .entry))) face f ⌝ }
 {
-    if check_shared::has_face(q, i, p) {
-        return face_before(l, base, grown, q, i, r);
-    }
-    false
+    let p = stored_entries::corners_in(l, base, grown, f / 4);
+    let found = check_shared::face_of(p, (f % 4) as u8);
+    check_shared::same_face(found, face)
 }
 
-fn face_in_three<'a>(
-    l: Layout,
-    base: &'a [u8],
-    grown: &'a [u8],
-    q: Piece,
-    r: usize,
-    p: Piece,
-) -> bool
-    ensures { λ b. ⌜ b ≡ faceInThree (recordIn l (now (base .entry)) (now (grown .entry))) q r p ⌝ }
+// Whether it is, and its record comes before r.
+fn is_before<'a>(l: Layout, base: &'a [u8], grown: &'a [u8], face: Face, r: usize, f: usize) -> bool
+    ensures { λ b. ⌜ b ≡ isBefore (recordIn l (now (base .entry)) (now (grown .entry))) face r f ⌝ }
 {
-    let mut i: u8 = 0;
-    while i < 4 {
-        if third_at(l, base, grown, q, r, p, i) {
-            return true;
-        }
-        i += 1;
-    }
-    false
-}
-
-// Most pairs of records share fewer than three corners and need no closer look.
-fn bad_together<'a>(
-    l: Layout,
-    base: &'a [u8],
-    grown: &'a [u8],
-    q: Piece,
-    r: usize,
-    p: Piece,
-) -> bool
-    ensures { λ b. ⌜ b ≡ badTogether (recordIn l (now (base .entry)) (now (grown .entry))) q r p ⌝ }
-{
-    if check_shared::shared_corners(p, q) < 3 {
+    if r <= f / 4 {
         return false;
     }
-    if face_in_three(l, base, grown, q, r, p) {
-        return true;
-    }
-    if check_shared::same_corners(p, q) {
-        return true;
-    }
-    check_shared::two_marks(p, q)
+    is_face(l, base, grown, face, f)
 }
 
-fn bad_at<'a>(l: Layout, base: &'a [u8], grown: &'a [u8], q: Piece, r: usize) -> bool
-    ensures { λ b. ⌜ b ≡ badTogether (recordIn l (now (base .entry)) (now (grown .entry))) q r (recordIn l (now (base .entry)) (now (grown .entry)) r .piece) ⌝ }
+// Whether a record before r has this face, along the links from m on.
+fn before_along<'a>(
+    l: Layout,
+    base: &'a [u8],
+    grown: &'a [u8],
+    nexts: &[u16],
+    m: usize,
+    face: Face,
+    r: usize,
+) -> bool
+    ensures { λ b. ⌜ b ≡ beforeAlong (recordIn l (now (base .entry)) (now (grown .entry))) (now (nexts .entry)) m face r ⌝ }
 {
-    let record = stored_entries::record_in(l, base, grown, r);
-    let p = record.piece;
-    bad_together(l, base, grown, q, r, p)
-}
-
-fn bad_with<'a>(l: Layout, base: &'a [u8], grown: &'a [u8], q: Piece, n: usize) -> bool
-    ensures { λ b. ⌜ b ≡ badWith (recordIn l (now (base .entry)) (now (grown .entry))) q n ⌝ }
-{
-    let mut r: usize = 0;
-    while r < n {
-        if bad_at(l, base, grown, q, r) {
+    let mut to = m;
+    while 0 < to {
+        let f = to - 1;
+        if is_before(l, base, grown, face, r, f) {
             return true;
         }
-        r += 1;
+        to = chains::link(nexts, f);
     }
     false
 }
 
-fn bad_faces<'a>(l: Layout, base: &'a [u8], grown: &'a [u8], n: usize) -> bool
-    ensures { λ b. ⌜ b ≡ badFaces (recordIn l (now (base .entry)) (now (grown .entry))) n ⌝ }
+// Whether face f is this one, which is face i of q, and the two records are bad together.
+fn bad_face<'a>(
+    l: Layout,
+    base: &'a [u8],
+    grown: &'a [u8],
+    nexts: &[u16],
+    m: usize,
+    q: Piece,
+    i: u8,
+    face: Face,
+    f: usize,
+) -> bool
+    ensures { λ b. ⌜ b ≡ badFace (recordIn l (now (base .entry)) (now (grown .entry))) (beforeAlong (recordIn l (now (base .entry)) (now (grown .entry))) (now (nexts .entry)) m face) q i face f ⌝ }
+{
+    let r = f / 4;
+    let j = (f % 4) as u8;
+    let p = stored_entries::corners_in(l, base, grown, r);
+    let found = check_shared::face_of(p, j);
+    if !check_shared::same_face(found, face) {
+        return false;
+    }
+    let c = q.corners;
+    let e = stored_entries::mark_in(l, base, grown, r, j);
+    if !check_shared::same_edge(p, e, c, piece::mark_of(q, i)) {
+        return true;
+    }
+    if check_shared::same_rest(p, j, c, i) {
+        return true;
+    }
+    before_along(l, base, grown, nexts, m, face, r)
+}
+
+// Whether face i of q is bad with a face along the links from m on.
+fn bad_along<'a>(
+    l: Layout,
+    base: &'a [u8],
+    grown: &'a [u8],
+    nexts: &[u16],
+    m: usize,
+    q: Piece,
+    i: u8,
+) -> bool
+    ensures { λ b. ⌜ b ≡ badAlong (recordIn l (now (base .entry)) (now (grown .entry))) (now (nexts .entry)) m q i ⌝ }
+{
+    let c = q.corners;
+    let face = check_shared::face_of(c, i);
+    let mut to = m;
+    while 0 < to {
+        let f = to - 1;
+        if bad_face(l, base, grown, nexts, m, q, i, face, f) {
+            return true;
+        }
+        to = chains::link(nexts, f);
+    }
+    false
+}
+
+// Whether one of q's faces is, each along the links of its own key.
+fn bad_linked<'a>(
+    l: Layout,
+    base: &'a [u8],
+    grown: &'a [u8],
+    heads: &[u16],
+    nexts: &[u16],
+    q: Piece,
+    keys: Keys,
+) -> bool
+    ensures { λ b. ⌜ b ≡ badLinked (recordIn l (now (base .entry)) (now (grown .entry))) (now (heads .entry)) (now (nexts .entry)) q keys ⌝ }
+{
+    if bad_along(l, base, grown, nexts, chains::at(heads, keys.first), q, 0) {
+        return true;
+    }
+    if bad_along(l, base, grown, nexts, chains::at(heads, keys.second), q, 1) {
+        return true;
+    }
+    if bad_along(l, base, grown, nexts, chains::at(heads, keys.third), q, 2) {
+        return true;
+    }
+    bad_along(l, base, grown, nexts, chains::at(heads, keys.fourth), q, 3)
+}
+
+// The faces of record n are put before the others with their keys.
+fn push_faces(heads: &mut [u16], nexts: &mut [u16], keys: Keys, n: usize)
+    requires { ⌜ n < limits .records ⌝ }
+    ensures { λ _. ⌜ linksOf (now (heads .exit)) (now (nexts .exit)) ≡ pushedFaces (linksOf (now (heads .entry)) (now (nexts .entry))) keys n ⌝ }
+{
+    let f = 4 * n;
+    chains::push(heads, nexts, keys.first, f);
+    chains::push(heads, nexts, keys.second, f + 1);
+    chains::push(heads, nexts, keys.third, f + 2);
+    chains::push(heads, nexts, keys.fourth, f + 3);
+}
+
+// Whether record n is bad with one before it; then its faces are linked too.
+fn bad_record<'a>(
+    l: Layout,
+    base: &'a [u8],
+    grown: &'a [u8],
+    heads: &mut [u16],
+    nexts: &mut [u16],
+    n: usize,
+) -> bool
+    requires { ⌜ n < limits .records ⌝ }
+    ensures { λ b. ⌜ b ≡ badLinked (recordIn l (now (base .entry)) (now (grown .entry))) (now (heads .entry)) (now (nexts .entry)) (recordIn l (now (base .entry)) (now (grown .entry)) n .piece) (keysOf (recordIn l (now (base .entry)) (now (grown .entry)) n .piece .corners)) ⌝ }
+    ensures { λ _. ⌜ linksOf (now (heads .exit)) (now (nexts .exit)) ≡ pushedFaces (linksOf (now (heads .entry)) (now (nexts .entry))) (keysOf (recordIn l (now (base .entry)) (now (grown .entry)) n .piece .corners)) n ⌝ }
 {
     let record = stored_entries::record_in(l, base, grown, n);
     let q = record.piece;
-    bad_with(l, base, grown, q, n)
+    let c = q.corners;
+    let keys = keys_of(c);
+    let bad = bad_linked(l, base, grown, heads, nexts, q, keys);
+    push_faces(heads, nexts, keys, n);
+    bad
 }
 
-pub fn bad_base_faces<'a>(h: Header, l: Layout, base: &'a [u8], grown: &'a [u8]) -> bool
-    ensures { λ b. ⌜ b ≡ badBaseFaces (tables h l (now (base .entry)) (now (grown .entry))) ⌝ }
+// The records one after the other, each against the faces of those before it.
+fn bad_below<'a>(
+    l: Layout,
+    base: &'a [u8],
+    grown: &'a [u8],
+    heads: &mut [u16],
+    nexts: &mut [u16],
+    count: usize,
+) -> bool
+    requires { ⌜ Linked (recordIn l (now base) (now grown)) 0 (linksOf (now heads) (now nexts)) × (count ≤ limits .records) ⌝ }
+    ensures { λ b. ⌜ b ≡ anyBelow count (badFaces (recordIn l (now (base .entry)) (now (grown .entry)))) ⌝ }
 {
-    let count = h.base_records as usize;
     let mut n: usize = 0;
     while n < count {
-        if bad_faces(l, base, grown, n) {
+        if bad_record(l, base, grown, heads, nexts, n) {
             return true;
         }
         n += 1;
     }
     false
+}
+
+fn bad_within<'a>(h: Header, l: Layout, base: &'a [u8], grown: &'a [u8]) -> bool
+    requires { ⌜ Room h ⌝ }
+    ensures { λ b. ⌜ b ≡ badBaseFaces (tables h l (now (base .entry)) (now (grown .entry))) ⌝ }
+{
+    let mut heads = [0u16; check_shared::FACE_HEADS];
+    let mut nexts = [0u16; FACES];
+    bad_below(
+        l,
+        base,
+        grown,
+        &mut heads,
+        &mut nexts,
+        h.base_records as usize,
+    )
+}
+
+pub fn bad_base_faces<'a>(h: Header, l: Layout, base: &'a [u8], grown: &'a [u8]) -> bool
+    ensures { λ b. ⌜ b ≡ orBeyond h (badBaseFaces (tables h l (now (base .entry)) (now (grown .entry)))) ⌝ }
+{
+    if check_refusals::is_beyond(h) {
+        return true;
+    }
+    bad_within(h, l, base, grown)
 }

@@ -1,18 +1,36 @@
 -- The place found hanging, as the search returns it.
-use mathlib.Core.Path.{_≡_}
-use mathlib.Core.Bool.{true, false, cond}
-use Prim.Native.Nat.{ℕ, _<_}
-use Rattle.laws.specs.Below.{anyBelow, any-is, any-fails, firstBelow, first-is, and-false}
+use mathlib.Core.Path.{_≡_, sym, _∙_}
+use mathlib.Core.Bool.{Bool, true, false, cond, _&&_}
+use mathlib.Core.Logic.{⊎-elim}
+use mathlib.Core.List.{List}
+use Prim.Native.Nat.{ℕ, _≤_, _<_}
+use native.Mathlib.Omega.{arith}
+use lib.Dec.{ltb}
+use lib.ListN.{length, getD, replicate, length-replicate}
+use Rattle.laws.specs.Below.{anyBelow, any-is, any-fails, any-same, firstBelow, first-is, and-false, either}
+use Rattle.laws.specs.Links.{anyAlong, Chain, Links, linksOf, zeros-at, chain-any}
 use Rattle.piece.specs.declared.Ends.{Ends}
 use Rattle.piece.specs.Ends.{endsOf}
 use Rattle.check_hanging.specs.declared.Found.{Found}
 use Rattle.check_hanging.specs.declared.Found.the-variants.{At, Nothing}
+use Rattle.stored.specs.Layout.{limits}
 use Rattle.check_refusals.specs.Tables.{Tables, allVertices, allRecords, pieceAt, isLeaf, hasParents, hangs}
+use Rattle.check_refusals.specs.Bounded.{Bounded, beyond, not-beyond, Room}
 use Rattle.check_refusals.specs.Refusals.{hangsAt, leafHangs, hangingEdge}
 use Rattle.check_refusals.specs.Check.{firstHanging}
+use Rattle.check_parents.specs.Pairs.{pairHeads, pairKey, keyOf, pairLinks, pairs-heads-long, pairs-chain, pair-key-within, has-key, any-with-is}
 
 unfoldable pub foundOf : Tables → Found
 foundOf m = cond (hangingEdge m) (At (firstHanging m) (firstBelow 6 (hangsAt m (firstHanging m)))) Nothing
+
+-- Counts beyond their limits have been refused before: there nothing is looked for.
+unfoldable pub foundWithin : Tables → Found
+foundWithin m = let found = foundOf m in cond (beyond (m .header)) Nothing found
+
+-- Within the limits it is the place found.
+pub within-found : (m : Tables) → Bounded (m .header) → foundWithin m ≡ foundOf m
+unfolding foundWithin
+within-found m b = rw (not-beyond (m .header) b)
 
 -- What is no leaf has no hanging edge.
 pub not-leaf : (m : Tables) (n : ℕ) → isLeaf m n ≡ false → leafHangs m n ≡ false
@@ -21,23 +39,23 @@ not-leaf m n f = any-fails (hangsAt m n) 6 (λ e l. rw f)
 
 module _ (m : Tables) (n e : ℕ) (ends : Ends) (is : ends ≡ endsOf (pieceAt m n) e) where
   -- No made vertex has its ends as parents: the edge does not hang.
-  pub rests : anyBelow (allVertices m) (hasParents m ends) ≡ false → hangsAt m n e ≡ false
-  unfolding hangsAt hangs
+  pub rests : hangs m ends ≡ false → hangsAt m n e ≡ false
+  unfolding hangsAt
   rests f = rw (← is, f) (and-false (isLeaf m n))
 
-  hanging-is : isLeaf m n ≡ true → (v : ℕ) → v < allVertices m → hasParents m ends v ≡ true → hangsAt m n e ≡ true
-  unfolding hangsAt hangs
-  hanging-is leaf v there has = rw (leaf, ← is) (any-is (hasParents m ends) (allVertices m) v there has)
+  hanging-is : isLeaf m n ≡ true → hangs m ends ≡ true → hangsAt m n e ≡ true
+  unfolding hangsAt
+  hanging-is leaf has = rw (leaf, ← is) has
 
   leaf-is : e < 6 → hangsAt m n e ≡ true → leafHangs m n ≡ true
   unfolding leafHangs
   leaf-is edge hanging = any-is (hangsAt m n) 6 e edge hanging
 
   -- A leaf's edge with such a vertex is the place to be reported, if the search passed none before it.
-  pub place-found : n < allRecords m → anyBelow n (leafHangs m) ≡ false → isLeaf m n ≡ true → e < 6 → anyBelow e (hangsAt m n) ≡ false → (v : ℕ) → v < allVertices m → hasParents m ends v ≡ true → At n e ≡ foundOf m
+  pub place-found : n < allRecords m → anyBelow n (leafHangs m) ≡ false → isLeaf m n ≡ true → e < 6 → anyBelow e (hangsAt m n) ≡ false → hangs m ends ≡ true → At n e ≡ foundOf m
   unfolding foundOf hangingEdge firstHanging
-  place-found inside before leaf edge earlier v there has =
-      let hanging : hangsAt m n e ≡ true = hanging-is leaf v there has in
+  place-found inside before leaf edge earlier has =
+      let hanging : hangsAt m n e ≡ true = hanging-is leaf has in
       let leafHanging : leafHangs m n ≡ true = leaf-is edge hanging in
       rw (
         any-is (leafHangs m) (allRecords m) n inside leafHanging,
@@ -49,3 +67,48 @@ module _ (m : Tables) (n e : ℕ) (ends : Ends) (is : ends ≡ endsOf (pieceAt m
 pub none-found : (m : Tables) → anyBelow (allRecords m) (leafHangs m) ≡ false → Nothing ≡ foundOf m
 unfolding foundOf hangingEdge
 none-found m f = rw f
+
+-- ---- along the links of the made vertices
+
+-- Where no vertex is linked yet.
+abbrev pub unlinked : Links
+unlinked = linksOf (replicate pairHeads 0) (replicate (limits .vertices) 0)
+
+-- The links filled from empty ones are those of all vertices.
+pub links-filled : (m : Tables) → Room (m .header) → (heads nexts : List ℕ) → heads ≡ pairLinks m unlinked (allVertices m) .heads → nexts ≡ pairLinks m unlinked (allVertices m) .nexts → (length heads ≡ pairHeads) × Chain (keyOf m) (allVertices m) heads nexts
+links-filled m room heads nexts h n = rw (h, n) (long, chain)
+  where
+    long : length (pairLinks m unlinked (allVertices m) .heads) ≡ pairHeads
+    long = pairs-heads-long m unlinked (allVertices m) ∙ length-replicate {A = ℕ} pairHeads 0
+
+    chain : Chain (keyOf m) (allVertices m) (pairLinks m unlinked (allVertices m) .heads) (pairLinks m unlinked (allVertices m) .nexts)
+    chain = pairs-chain m unlinked (allVertices m) (zeros-at pairHeads) (rw (length-replicate {A = ℕ} (limits .vertices) 0) (room .vertices)) (omega (arith, room .vertices))
+
+-- Along them an edge is found to hang as among all vertices.
+pub linked-hangs : (m : Tables) (heads nexts : List ℕ) → (length heads ≡ pairHeads) × Chain (keyOf m) (allVertices m) heads nexts → (ends : Ends) → anyAlong nexts (hasParents m ends) (getD heads (pairKey ends) 0) ≡ hangs m ends
+unfolding hangs
+linked-hangs m heads nexts (long, c) ends =
+    chain-any (keyOf m) (allVertices m) heads nexts c (hasParents m ends) (pairKey ends) (rw long (pair-key-within ends)) (λ u l t. has-key m ends u t)
+
+-- As found along links that may lead to more vertices than the tables have: the edge with these ends hangs; record n is a leaf and an edge
+-- of it hangs.
+unfoldable pub hangsAlong : Tables → List ℕ → List ℕ → Ends → Bool
+hangsAlong m heads nexts ends = anyAlong nexts (λ u. ltb u (allVertices m) && hasParents m ends u) (getD heads (pairKey ends) 0)
+
+unfoldable pub leafHangsAlong : Tables → List ℕ → List ℕ → ℕ → Bool
+leafHangsAlong m heads nexts n = isLeaf m n && anyBelow 6 (λ e. hangsAlong m heads nexts (endsOf (pieceAt m n) e))
+
+-- It is what hangs.
+module _ (m : Tables) (k : ℕ) (heads nexts : List ℕ) (c : Chain (keyOf m) k heads nexts) (long : length heads ≡ pairHeads) (up : allVertices m ≤ k) where
+  -- Of edge e of a leaf.
+  edge-hangs-along : (n e : ℕ) → isLeaf m n ≡ true → hangsAlong m heads nexts (endsOf (pieceAt m n) e) ≡ hangsAt m n e
+  unfolding hangsAlong hangsAt hangs
+  edge-hangs-along n e leaf = rw leaf (any-with-is m k heads nexts c long (endsOf (pieceAt m n) e) (allVertices m) up)
+
+  pub leaf-hangs-along : (n : ℕ) → leafHangsAlong m heads nexts n ≡ leafHangs m n
+  unfolding leafHangsAlong leafHangs
+  leaf-hangs-along n =
+      ⊎-elim
+      (λ t. rw t (any-same 6 (λ e. hangsAlong m heads nexts (endsOf (pieceAt m n) e)) (hangsAt m n) (λ e l. edge-hangs-along n e t)))
+      (λ f. rw f (sym (not-leaf m n f)))
+      (either (isLeaf m n))

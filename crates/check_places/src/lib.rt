@@ -1,15 +1,22 @@
-// Refusal 4: vertices off the grid, out of place or with a parent pair used twice.
+// Refusal 4: vertices off the grid, out of place or with a parent pair used twice. Base vertices are linked by their places and made ones by their
+// parents, each after it was judged, so that of those before it only the ones with its key are looked at.
 use grid::Place;
 use piece::Ends;
 use stored::Header;
 use stored::Layout;
 use stored::Vertex;
 ghost use mathlib.Core.Path.{_≡_};
-ghost use Rattle.laws.specs.Below.{anyBelow};
+ghost use Rattle.laws.specs.Links.{linksOf, pushed};
 ghost use Rattle.grid.specs.Places.{samePlace};
 ghost use Rattle.stored.specs.Layout.{vertexIn};
-ghost use Rattle.check_refusals.specs.Tables.{tables, hasParents};
-ghost use Rattle.check_refusals.specs.Refusals.{badBaseVertex, placeTwice, badMadeVertex, pairTwice, badVertex, badVertices};
+ghost use Rattle.check_refusals.specs.Tables.{tables};
+ghost use Rattle.check_refusals.specs.Refusals.{badBaseVertex, badMadeVertex, pairTwice, badVertex, badVertices};
+ghost use Rattle.check_refusals.specs.Bounded.{Room, orBeyond};
+ghost use Rattle.check_parents.specs.Pairs.{pairHeads, keyOf};
+ghost use Rattle.check_places.specs.Kept.{placeHeads, placeKey, placeKeyOf, Kept, placeAlong};
+
+// How many keys places have.
+const PLACE_HEADS: usize = 1021;
 
 fn bad_base_vertex(v: Vertex) -> bool
     ensures { λ r. ⌜ r ≡ badBaseVertex v ⌝ }
@@ -32,26 +39,35 @@ fn stands_at<'a>(l: Layout, base: &'a [u8], grown: &'a [u8], u: usize, place: Pl
     grid::same_place(there, place)
 }
 
-// Whether a vertex before v stands at this place.
-fn place_taken<'a>(l: Layout, base: &'a [u8], grown: &'a [u8], place: Place, v: usize) -> bool
-    ensures { λ r. ⌜ r ≡ anyBelow v (λ u. samePlace (vertexIn l (now (base .entry)) (now (grown .entry)) u .place) place) ⌝ }
+fn place_key(place: Place) -> usize
+    ensures { λ r. ⌜ r ≡ placeKey place ⌝ }
 {
-    let mut u: usize = 0;
-    while u < v {
+    let x = place.x as usize;
+    let y = place.y as usize;
+    let z = place.z as usize;
+    (x / 32 * 37 + y / 32 * 101 + z / 32 * 3) % PLACE_HEADS
+}
+
+// Whether a vertex along the links stands at this place.
+fn place_along<'a>(
+    l: Layout,
+    base: &'a [u8],
+    grown: &'a [u8],
+    heads: &'a [u16],
+    nexts: &'a [u16],
+    place: Place,
+) -> bool
+    ensures { λ r. ⌜ r ≡ placeAlong (vertexIn l (now (base .entry)) (now (grown .entry))) (now (heads .entry)) (now (nexts .entry)) place ⌝ }
+{
+    let mut to = chains::at(heads, place_key(place));
+    while 0 < to {
+        let u = to - 1;
         if stands_at(l, base, grown, u, place) {
             return true;
         }
-        u += 1;
+        to = chains::link(nexts, u);
     }
     false
-}
-
-fn place_twice<'a>(l: Layout, base: &'a [u8], grown: &'a [u8], v: usize) -> bool
-    ensures { λ r. ⌜ r ≡ placeTwice (vertexIn l (now (base .entry)) (now (grown .entry))) v ⌝ }
-{
-    let vertex = stored_entries::vertex_in(l, base, grown, v);
-    let place = vertex.place;
-    place_taken(l, base, grown, place, v)
 }
 
 fn bad_made_vertex<'a>(l: Layout, base: &'a [u8], grown: &'a [u8], v: usize) -> bool
@@ -74,63 +90,123 @@ fn bad_made_vertex<'a>(l: Layout, base: &'a [u8], grown: &'a [u8], v: usize) -> 
     !grid::is_halfway(place, one_place, other_place)
 }
 
-// Whether a made vertex before v has these parents.
-fn pair_taken<'a>(
+// Whether a vertex before v has v's parents.
+fn pair_twice<'a>(
     h: Header,
     l: Layout,
     base: &'a [u8],
     grown: &'a [u8],
-    ends: Ends,
+    heads: &'a [u16],
+    nexts: &'a [u16],
     v: usize,
 ) -> bool
-    ensures { λ r. ⌜ r ≡ anyBelow v (hasParents (tables h l (now (base .entry)) (now (grown .entry))) ends) ⌝ }
-{
-    let mut u: usize = 0;
-    while u < v {
-        if check_parents::has_parents(h, l, base, grown, ends, u) {
-            return true;
-        }
-        u += 1;
-    }
-    false
-}
-
-fn pair_twice<'a>(h: Header, l: Layout, base: &'a [u8], grown: &'a [u8], v: usize) -> bool
+    requires { ⌜ Kept (keyOf (tables h l (now base) (now grown))) pairHeads v (now heads) (now nexts) ⌝ }
     ensures { λ r. ⌜ r ≡ pairTwice (tables h l (now (base .entry)) (now (grown .entry))) v ⌝ }
 {
-    let vertex = stored_entries::vertex_in(l, base, grown, v);
+    let parents = stored_entries::parents_in(l, base, grown, v);
     let ends = Ends {
-        lower: vertex.p,
-        higher: vertex.q,
+        lower: parents.p,
+        higher: parents.q,
     };
-    pair_taken(h, l, base, grown, ends, v)
+    check_parents::any_with(h, l, base, grown, heads, nexts, v, ends)
 }
 
-fn bad_vertex<'a>(h: Header, l: Layout, base: &'a [u8], grown: &'a [u8], v: usize) -> bool
+// Vertex v, where those before it are linked.
+fn bad_vertex<'a>(
+    h: Header,
+    l: Layout,
+    base: &'a [u8],
+    grown: &'a [u8],
+    place_heads: &'a [u16],
+    place_nexts: &'a [u16],
+    pair_heads: &'a [u16],
+    pair_nexts: &'a [u16],
+    v: usize,
+) -> bool
+    requires { ⌜ Kept (placeKeyOf (tables h l (now base) (now grown))) placeHeads v (now «place_heads») (now «place_nexts») ⌝ }
+    requires { ⌜ Kept (keyOf (tables h l (now base) (now grown))) pairHeads v (now «pair_heads») (now «pair_nexts») ⌝ }
     ensures { λ r. ⌜ r ≡ badVertex (tables h l (now (base .entry)) (now (grown .entry))) v ⌝ }
 {
     if v < h.base_vertices as usize {
-        if bad_base_vertex(stored_entries::vertex_in(l, base, grown, v)) {
+        let vertex = stored_entries::vertex_in(l, base, grown, v);
+        if bad_base_vertex(vertex) {
             return true;
         }
-        return place_twice(l, base, grown, v);
+        let place = vertex.place;
+        return place_along(l, base, grown, place_heads, place_nexts, place);
     }
     if bad_made_vertex(l, base, grown, v) {
         return true;
     }
-    pair_twice(h, l, base, grown, v)
+    pair_twice(h, l, base, grown, pair_heads, pair_nexts, v)
 }
 
-pub fn bad_vertices<'a>(h: Header, l: Layout, base: &'a [u8], grown: &'a [u8]) -> bool
+// The key of vertex v's place: past the heads if it is made.
+fn vertex_key<'a>(h: Header, l: Layout, base: &'a [u8], grown: &'a [u8], v: usize) -> usize
+    ensures { λ r. ⌜ r ≡ placeKeyOf (tables h l (now (base .entry)) (now (grown .entry))) v ⌝ }
+{
+    if v < h.base_vertices as usize {
+        let vertex = stored_entries::vertex_in(l, base, grown, v);
+        let place = vertex.place;
+        return place_key(place);
+    }
+    PLACE_HEADS
+}
+
+// Vertex v is put before the others with its place's key.
+fn link_place<'a>(
+    h: Header,
+    l: Layout,
+    base: &'a [u8],
+    grown: &'a [u8],
+    heads: &mut [u16],
+    nexts: &mut [u16],
+    v: usize,
+)
+    ensures { λ _. ⌜ now (heads .exit) ≡ pushed (linksOf (now (heads .entry)) (now (nexts .entry))) (placeKeyOf (tables h l (now (base .entry)) (now (grown .entry))) v) v .heads ⌝ }
+    ensures { λ _. ⌜ now (nexts .exit) ≡ pushed (linksOf (now (heads .entry)) (now (nexts .entry))) (placeKeyOf (tables h l (now (base .entry)) (now (grown .entry))) v) v .nexts ⌝ }
+{
+    let key = vertex_key(h, l, base, grown, v);
+    chains::push(heads, nexts, key, v);
+}
+
+// Each vertex is judged by those before it, and then linked.
+fn bad_within<'a>(h: Header, l: Layout, base: &'a [u8], grown: &'a [u8]) -> bool
+    requires { ⌜ Room h ⌝ }
     ensures { λ r. ⌜ r ≡ badVertices (tables h l (now (base .entry)) (now (grown .entry))) ⌝ }
 {
+    let mut place_heads = [0u16; PLACE_HEADS];
+    let mut place_nexts = [0u16; stored::VERTICES];
+    let mut pair_heads = [0u16; check_parents::PAIR_HEADS];
+    let mut pair_nexts = [0u16; stored::VERTICES];
     let count = h.vertices as usize;
     let mut v: usize = 0;
     while v < count {
-        if bad_vertex(h, l, base, grown, v) {
+        if bad_vertex(
+            h,
+            l,
+            base,
+            grown,
+            &place_heads,
+            &place_nexts,
+            &pair_heads,
+            &pair_nexts,
+            v,
+        ) {
             return true;
         }
+        link_place(h, l, base, grown, &mut place_heads, &mut place_nexts, v);
+        check_parents::link_vertex(h, l, base, grown, &mut pair_heads, &mut pair_nexts, v);
         v += 1;
     }
     false
+}
+
+pub fn bad_vertices<'a>(h: Header, l: Layout, base: &'a [u8], grown: &'a [u8]) -> bool
+    ensures { λ r. ⌜ r ≡ orBeyond h (badVertices (tables h l (now (base .entry)) (now (grown .entry)))) ⌝ }
+{
+    if check_refusals::is_beyond(h) {
+        return true;
+    }
+    bad_within(h, l, base, grown)
 }

@@ -4,11 +4,13 @@
 use grid::Place;
 use piece::Ends;
 use piece::Piece;
+use stored::Header;
 use stored::Layout;
 ghost use mathlib.Core.Path.{_≡_};
 ghost use lib.Dec.{eqb};
 ghost use Rattle.piece.specs.Ends.{cornerAt};
 ghost use Rattle.stored.specs.Layout.{vertexIn, recordIn};
+ghost use Rattle.check_refusals.specs.Bounded.{beyond};
 ghost use Rattle.check_refusals.specs.Refusals.{hasCorner};
 ghost use Rattle.check_refusals.specs.Tables.{uncut, refinementEnds, sixfoldAt};
 
@@ -21,6 +23,22 @@ pub struct Report {
     pub sixfold: u64,
     pub record: u64,
     pub edge: u64,
+}
+
+// Whether a count is beyond its limit, so that what is kept beside the tables has no room.
+pub fn is_beyond(h: Header) -> bool
+    ensures { λ r. ⌜ r ≡ beyond h ⌝ }
+{
+    if stored::VERTICES < h.vertices as usize {
+        return true;
+    }
+    if stored::RECORDS < h.records as usize {
+        return true;
+    }
+    if stored::VERTICES < h.base_vertices as usize {
+        return true;
+    }
+    stored::RECORDS < h.base_records as usize
 }
 
 // Whether record n is not cut.

@@ -1,2 +1,6 @@
--- Two pieces with a face in common share three corners: why most pairs need no closer look.
-pub mod Sharing
+-- What rule 7 says of two pieces, said of the corners of a face that they share; a face's key, by which it is found.
+pub mod Faces
+pub mod Keys
+pub mod Shared
+pub mod Rest
+pub mod Marks

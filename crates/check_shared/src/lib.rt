@@ -1,186 +1,157 @@
-// Two pieces compared by their corners and faces, which are sets of corner numbers, and by the marks of a face that they share.
-use piece::Ends;
-use piece::Piece;
+// Two pieces compared by a face that they share: a face is a set of corner numbers, and so is a piece. A face's key is made of its corners, so that the
+// face is found by it.
 ghost use mathlib.Core.Path.{_≡_};
-ghost use mathlib.Core.Bool.{not, _&&_, _||_};
-ghost use lib.Dec.{eqb};
-ghost use Rattle.laws.specs.Below.{anyBelow, bit};
-ghost use Rattle.piece.specs.Ends.{cornerAt};
-ghost use Rattle.check_refusals.specs.Refusals.{
-  hasCorner,
-  faceHas,
-  faceWithin,
-  sameFace,
-  sameEnds,
-  sameMark,
-  cornersWithin,
-  sameCorners,
-  twoMarksOn,
-  twoMarks,
-  hasFace,
-};
-ghost use Rattle.check_shared.specs.Sharing.{sharedCorners};
+ghost use mathlib.Core.Bool.{cond};
+ghost use Prim.Native.Nat.{max};
+ghost use lib.ListN.{getD};
+ghost use Rattle.check_shared.specs.Faces.{faceOf, holds, inside, sameSet};
+ghost use Rattle.check_shared.specs.Keys.{under, mostUnder, keyOf};
+ghost use Rattle.check_shared.specs.Rest.{has, sameRest};
+ghost use Rattle.check_shared.specs.Marks.{sameTwo, sameEdge};
 
-fn face_corner_is(p: Piece, i: u8, x: u32, k: u8) -> bool
-    ensures { λ r. ⌜ r ≡ (not (eqb k i) && eqb (cornerAt p k) x) ⌝ }
-{
-    if k == i {
-        return false;
-    }
-    piece::corner(p, k) == x
+// How many keys there are.
+pub const FACE_HEADS: usize = 8192;
+
+// The corners of a face.
+pub struct Face {
+    pub a: u32,
+    pub b: u32,
+    pub c: u32,
 }
 
-fn face_has(p: Piece, i: u8, x: u32) -> bool
-    ensures { λ r. ⌜ r ≡ faceHas p i x ⌝ }
+fn one_of(first: bool, x: u32, y: u32) -> u32
+    ensures { λ r. ⌜ r ≡ cond first x y ⌝ }
 {
-    let mut k: u8 = 0;
-    while k < 4 {
-        if face_corner_is(p, i, x, k) {
-            return true;
-        }
-        k += 1;
-    }
-    false
+    if first { x } else { y }
 }
 
-fn corner_within(p: Piece, i: u8, q: Piece, j: u8, k: u8) -> bool
-    ensures { λ r. ⌜ r ≡ (eqb k i || faceHas q j (cornerAt p k)) ⌝ }
+// Face i of a piece with these corners: the one without slot i.
+pub fn face_of(p: [u32; 4], i: u8) -> Face
+    ensures { λ r. ⌜ r ≡ faceOf p i ⌝ }
 {
-    if k == i {
+    Face {
+        a: one_of(i == 0, p[1], p[0]),
+        b: one_of(i <= 1, p[2], p[1]),
+        c: one_of(i <= 2, p[3], p[2]),
+    }
+}
+
+fn face_holds(f: Face, x: u32) -> bool
+    ensures { λ r. ⌜ r ≡ holds f x ⌝ }
+{
+    if f.a == x {
         return true;
     }
-    face_has(q, j, piece::corner(p, k))
-}
-
-fn face_within(p: Piece, i: u8, q: Piece, j: u8) -> bool
-    ensures { λ r. ⌜ r ≡ faceWithin p i q j ⌝ }
-{
-    let mut k: u8 = 0;
-    while k < 4 {
-        if !corner_within(p, i, q, j, k) {
-            return false;
-        }
-        k += 1;
+    if f.b == x {
+        return true;
     }
-    true
+    f.c == x
 }
 
-fn same_face(p: Piece, i: u8, q: Piece, j: u8) -> bool
-    ensures { λ r. ⌜ r ≡ sameFace p i q j ⌝ }
+fn face_inside(f: Face, g: Face) -> bool
+    ensures { λ r. ⌜ r ≡ inside f g ⌝ }
 {
-    if face_within(p, i, q, j) {
-        return face_within(q, j, p, i);
-    }
-    false
-}
-
-fn same_ends(a: Ends, b: Ends) -> bool
-    ensures { λ r. ⌜ r ≡ sameEnds a b ⌝ }
-{
-    if a.lower != b.lower {
+    if !face_holds(g, f.a) {
         return false;
     }
-    a.higher == b.higher
-}
-
-fn same_mark(p: Piece, i: u8, q: Piece, j: u8) -> bool
-    ensures { λ r. ⌜ r ≡ sameMark p i q j ⌝ }
-{
-    let a = piece::ends_of(p, piece::mark_of(p, i));
-    let b = piece::ends_of(q, piece::mark_of(q, j));
-    same_ends(a, b)
-}
-
-fn shares(p: Piece, q: Piece, k: u8) -> bool
-    ensures { λ r. ⌜ r ≡ hasCorner q (cornerAt p k) ⌝ }
-{
-    check_refusals::has_corner(q, piece::corner(p, k))
-}
-
-fn corners_within(p: Piece, q: Piece) -> bool
-    ensures { λ r. ⌜ r ≡ cornersWithin p q ⌝ }
-{
-    let mut k: u8 = 0;
-    while k < 4 {
-        if !shares(p, q, k) {
-            return false;
-        }
-        k += 1;
+    if !face_holds(g, f.b) {
+        return false;
     }
-    true
+    face_holds(g, f.c)
 }
 
-pub fn same_corners(p: Piece, q: Piece) -> bool
-    ensures { λ r. ⌜ r ≡ sameCorners p q ⌝ }
+pub fn same_face(f: Face, g: Face) -> bool
+    ensures { λ r. ⌜ r ≡ sameSet f g ⌝ }
 {
-    if corners_within(p, q) {
-        return corners_within(q, p);
+    if face_inside(f, g) {
+        return face_inside(g, f);
     }
     false
 }
 
-fn two_marks_on(p: Piece, i: u8, q: Piece, j: u8) -> bool
-    ensures { λ r. ⌜ r ≡ twoMarksOn p i q j ⌝ }
+fn greater(x: u32, y: u32) -> u32
+    ensures { λ r. ⌜ r ≡ max x y ⌝ }
 {
-    if same_face(p, i, q, j) {
-        return !same_mark(p, i, q, j);
+    if x < y { y } else { x }
+}
+
+fn only_under(top: u32, x: u32) -> u32
+    ensures { λ r. ⌜ r ≡ under top x ⌝ }
+{
+    if x < top { x } else { 0 }
+}
+
+// The greatest corner that is below top.
+fn most_under(top: u32, f: Face) -> u32
+    ensures { λ r. ⌜ r ≡ mostUnder top f ⌝ }
+{
+    let x = greater(only_under(top, f.a), only_under(top, f.b));
+    greater(x, only_under(top, f.c))
+}
+
+// A face's key is made of its corners in falling order.
+pub fn face_key(f: Face) -> usize
+    ensures { λ r. ⌜ r ≡ keyOf f ⌝ }
+{
+    let first = greater(greater(f.a, f.b), f.c);
+    let second = most_under(first, f);
+    let third = most_under(second, f);
+    (first as usize + 37 * (second as usize) + 1029 * (third as usize)) % FACE_HEADS
+}
+
+// The corner in slot k.
+fn corner(p: [u32; 4], k: u8) -> u32
+    ensures { λ r. ⌜ r ≡ getD p k 0 ⌝ }
+{
+    let at = k as usize;
+    if at < 4 { p[at] } else { 0 }
+}
+
+fn has_corner(p: [u32; 4], x: u32) -> bool
+    ensures { λ r. ⌜ r ≡ has p x ⌝ }
+{
+    if p[0] == x {
+        return true;
+    }
+    if p[1] == x {
+        return true;
+    }
+    if p[2] == x {
+        return true;
+    }
+    p[3] == x
+}
+
+// Of pieces whose faces i and j are the same: whether the corners that these are without are corners of both pieces too.
+pub fn same_rest(p: [u32; 4], i: u8, q: [u32; 4], j: u8) -> bool
+    ensures { λ r. ⌜ r ≡ sameRest p i q j ⌝ }
+{
+    if has_corner(q, corner(p, i)) {
+        return has_corner(p, corner(q, j));
     }
     false
 }
 
-fn two_marks_from(p: Piece, i: u8, q: Piece) -> bool
-    ensures { λ r. ⌜ r ≡ anyBelow 4 (twoMarksOn p i q) ⌝ }
+// Two pairs, in either order.
+fn same_two(a: u32, b: u32, c: u32, d: u32) -> bool
+    ensures { λ r. ⌜ r ≡ sameTwo a b c d ⌝ }
 {
-    let mut j: u8 = 0;
-    while j < 4 {
-        if two_marks_on(p, i, q, j) {
-            return true;
-        }
-        j += 1;
+    if a == c {
+        return b == d;
+    }
+    if a == d {
+        return b == c;
     }
     false
 }
 
-pub fn two_marks(p: Piece, q: Piece) -> bool
-    ensures { λ r. ⌜ r ≡ twoMarks p q ⌝ }
+// Whether edge e of the one piece is edge f of the other, by their vertex numbers.
+pub fn same_edge(p: [u32; 4], e: u8, q: [u32; 4], f: u8) -> bool
+    ensures { λ r. ⌜ r ≡ sameEdge p e q f ⌝ }
 {
-    let mut i: u8 = 0;
-    while i < 4 {
-        if two_marks_from(p, i, q) {
-            return true;
-        }
-        i += 1;
-    }
-    false
-}
-
-pub fn has_face(q: Piece, i: u8, p: Piece) -> bool
-    ensures { λ r. ⌜ r ≡ hasFace q i p ⌝ }
-{
-    let mut j: u8 = 0;
-    while j < 4 {
-        if same_face(p, j, q, i) {
-            return true;
-        }
-        j += 1;
-    }
-    false
-}
-
-pub fn shared_corners(p: Piece, q: Piece) -> u32
-    ensures { λ r. ⌜ r ≡ sharedCorners p q ⌝ }
-{
-    let mut k: u8 = 0;
-    let mut c: u32 = 0;
-    while k < 4 {
-        c += one_if(shares(p, q, k));
-        k += 1;
-    }
-    c
-}
-
-fn one_if(b: bool) -> u32
-    ensures { λ r. ⌜ r ≡ bit b ⌝ }
-{
-    if b { 1 } else { 0 }
+    let a = corner(p, piece_edges::low_slot(e));
+    let b = corner(p, piece_edges::high_slot(e));
+    let c = corner(q, piece_edges::low_slot(f));
+    let d = corner(q, piece_edges::high_slot(f));
+    same_two(a, b, c, d)
 }

@@ -3,12 +3,12 @@ use piece::Piece;
 use stored::Header;
 use stored::Layout;
 ghost use mathlib.Core.Path.{_≡_};
-ghost use Prim.Native.Nat.{ℕ, _≤_, _<_};
+ghost use Prim.Native.Nat.{ℕ, _<_};
 ghost use lib.ListN.{getD, replicate};
-ghost use Rattle.laws.specs.Below.{anyBelow};
 ghost use Rattle.stored.specs.Layout.{limits, recordIn};
 ghost use Rattle.check_refusals.specs.Tables.{tables};
-ghost use Rattle.check_refusals.specs.Refusals.{hasCorner, unusedVertex, unusedVertices};
+ghost use Rattle.check_refusals.specs.Refusals.{unusedVertices};
+ghost use Rattle.check_refusals.specs.Bounded.{Room, orBeyond};
 ghost use Rattle.check_uses.specs.Uses.{usedAt, usedBy, usesAfter};
 
 // One use more of vertex x, if the table has it.
@@ -53,7 +53,7 @@ fn count_records<'a>(uses: &mut [u64], l: Layout, base: &'a [u8], grown: &'a [u8
 }
 
 fn unused_by_table<'a>(h: Header, l: Layout, base: &'a [u8], grown: &'a [u8]) -> bool
-    requires { ⌜ h .«base_vertices» ≤ limits .vertices ⌝ }
+    requires { ⌜ Room h ⌝ }
     ensures { λ r. ⌜ r ≡ unusedVertices (tables h l (now (base .entry)) (now (grown .entry))) ⌝ }
 {
     let mut uses = [0u64; stored::VERTICES];
@@ -69,53 +69,12 @@ fn unused_by_table<'a>(h: Header, l: Layout, base: &'a [u8], grown: &'a [u8]) ->
     false
 }
 
-fn record_has<'a>(l: Layout, base: &'a [u8], grown: &'a [u8], n: usize, v: u32) -> bool
-    ensures { λ r. ⌜ r ≡ hasCorner (recordIn l (now (base .entry)) (now (grown .entry)) n .piece) v ⌝ }
-{
-    let record = stored_entries::record_in(l, base, grown, n);
-    let p = record.piece;
-    check_refusals::has_corner(p, v)
-}
-
-fn is_used<'a>(l: Layout, base: &'a [u8], grown: &'a [u8], count: usize, v: u32) -> bool
-    ensures { λ r. ⌜ r ≡ anyBelow count (λ n. hasCorner (recordIn l (now (base .entry)) (now (grown .entry)) n .piece) v) ⌝ }
-{
-    let mut n: usize = 0;
-    while n < count {
-        if record_has(l, base, grown, n, v) {
-            return true;
-        }
-        n += 1;
-    }
-    false
-}
-
-fn is_unused<'a>(h: Header, l: Layout, base: &'a [u8], grown: &'a [u8], v: u32) -> bool
-    ensures { λ r. ⌜ r ≡ unusedVertex (tables h l (now (base .entry)) (now (grown .entry))) v ⌝ }
-{
-    !is_used(l, base, grown, h.base_records as usize, v)
-}
-
-fn unused_by_search<'a>(h: Header, l: Layout, base: &'a [u8], grown: &'a [u8]) -> bool
-    ensures { λ r. ⌜ r ≡ unusedVertices (tables h l (now (base .entry)) (now (grown .entry))) ⌝ }
-{
-    let count = h.base_vertices;
-    let mut v: u32 = 0;
-    while v < count {
-        if is_unused(h, l, base, grown, v) {
-            return true;
-        }
-        v += 1;
-    }
-    false
-}
-
-// The table has a place for each possible vertex; a count that refusal 3 refuses is served without it.
+// The table has a place for each possible vertex.
 pub fn unused_vertices<'a>(h: Header, l: Layout, base: &'a [u8], grown: &'a [u8]) -> bool
-    ensures { λ r. ⌜ r ≡ unusedVertices (tables h l (now (base .entry)) (now (grown .entry))) ⌝ }
+    ensures { λ r. ⌜ r ≡ orBeyond h (unusedVertices (tables h l (now (base .entry)) (now (grown .entry)))) ⌝ }
 {
-    if stored::VERTICES < h.base_vertices as usize {
-        return unused_by_search(h, l, base, grown);
+    if check_refusals::is_beyond(h) {
+        return true;
     }
     unused_by_table(h, l, base, grown)
 }

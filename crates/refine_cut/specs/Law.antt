@@ -20,7 +20,7 @@ use Rattle.stored.specs.Entries.{vertex-is-bytes, record-is-bytes}
 use Rattle.stored.specs.Tables.{Holds, vertex-put, vertex-put-records, vertex-put-holds, record-put, record-put-vertices, record-put-holds}
 use Rattle.check_refusals.specs.Tables.{Tables, hasParents, vertexWith, refinementEnds}
 use Rattle.refine_cut.specs.Cut.{midpointOf, oneVertexMore, twoRecordsMore, withMidpoint, cutRecord, leafRecord, withChildren, cutAt}
-use Rattle.refine_cut.specs.Slices.{Slices, tablesIn, vertexPut, recordPut, headed, midpointPut, childrenPut, hasRoom, cutPut}
+use Rattle.refine_cut.specs.Slices.{Slices, tablesIn, vertexPut, recordPut, headed, midpointPut, childrenPut, hasRoom, cutWith, cutPut}
 use Rattle.refine_cut.specs.Fits.{cut-record-fits, children-fit, midpoint-fits}
 
 -- What a cut asks of the slices: they hold the layout's tables, which have room for one vertex and two records more and no number that
@@ -210,7 +210,7 @@ module _ (l : Layout) (s : Slices) (n : ℕ) (ready : Ready l s n) where
   still-there = omega (arith, half .counted, ready .there)
 
   cut-is : cutPut l s n ≡ childrenPut l with-midpoint n record-n w-n
-  unfolding cutPut hasRoom
+  unfolding cutPut cutWith hasRoom
   cut-is = rw (lt-ltb (s .header .vertices) (l .vertices .end) (ready .vertex-room), lt-ltb (s .header .records + 1) (l .records .end) (ready .record-room))
 
   -- The tables after the cut are the tables before it, cut.
@@ -235,3 +235,10 @@ module _ (l : Layout) (s : Slices) (n : ℕ) (ready : Ready l s n) where
       subst (λ (t : Slices). Bytes (t .base) × Bytes (t .grown))
       (sym (cut-is ∙ ap (λ (r : Record). childrenPut l with-midpoint n r w-n) (sym same-record)))
       (children-bytes l with-midpoint (half .holds) n w-n record-is-stored small room-left (ready .few-records) still-there (half .bytes (ready .base-bytes, ready .grown-bytes)))
+
+-- So for slices that are cut at the vertex with its refinement edge's ends for parents.
+pub cut-with-tables : (l : Layout) (s : Slices) (n w : ℕ) (t : Slices) → t ≡ cutWith l s n w → Ready l s n → w ≡ vertexWith (tablesIn l s) (refinementEnds (recordIn l (s .base) (s .grown) n .piece)) →
+    tablesIn l t ≡ cutAt (tablesIn l s) n
+unfolding cutPut
+cut-with-tables l s n w t is ready found =
+    ap (tablesIn l) (is ∙ ap (cutWith l s n) found) ∙ cut-tables l s n ready

@@ -66,10 +66,13 @@ childrenPut l s n r w =
 unfoldable pub hasRoom : Layout → Header → Bool
 hasRoom l h = ltb (h .vertices) (l .vertices .end) && ltb (h .records + 1) (l .records .end)
 
-unfoldable pub cutPut : Layout → Slices → ℕ → Slices
-cutPut l s n =
+-- Record n cut at vertex w, which is appended where w is the count of vertices.
+unfoldable pub cutWith : Layout → Slices → ℕ → ℕ → Slices
+cutWith l s n w =
     let r = recordIn l (s .base) (s .grown) n in
-    let ends = refinementEnds (r .piece) in
-    let w = vertexWith (tablesIn l s) ends in
-    let cut = childrenPut l (midpointPut l s ends w) n r w in
+    let cut = childrenPut l (midpointPut l s (refinementEnds (r .piece)) w) n r w in
     cond (hasRoom l (s .header)) cut s
+
+-- Record n cut at the vertex whose parents are its refinement edge's ends, and at the count of vertices where there is none.
+unfoldable pub cutPut : Layout → Slices → ℕ → Slices
+cutPut l s n = cutWith l s n (vertexWith (tablesIn l s) (refinementEnds (recordIn l (s .base) (s .grown) n .piece)))

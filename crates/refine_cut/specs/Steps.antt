@@ -15,9 +15,9 @@ use Rattle.stored.specs.declared.Header.{Header}
 use Rattle.stored.specs.declared.Vertex.{Vertex}
 use Rattle.stored.specs.declared.Record.{Record}
 use Rattle.stored.specs.Layout.{baseInto, grownInto, vertexBytes, recordBytes, vertexIn, recordIn}
-use Rattle.check_refusals.specs.Tables.{tables, vertexWith, refinementEnds}
+use Rattle.check_refusals.specs.Tables.{refinementEnds}
 use Rattle.refine_cut.specs.Cut.{midpointOf, oneVertexMore, twoRecordsMore, cutRecord, leafRecord}
-use Rattle.refine_cut.specs.Slices.{Slices, slices, vertexPut, recordPut, headed, midpointPut, childrenPut, hasRoom, cutPut}
+use Rattle.refine_cut.specs.Slices.{Slices, slices, vertexPut, recordPut, headed, midpointPut, childrenPut, hasRoom, cutWith}
 
 -- ---- the midpoint
 
@@ -39,13 +39,14 @@ module _ (l : Layout) (h : Header) (base grown : List ℕ) (ends : Ends) (w : �
       ((g ∙ ap (λ (x : Vertex). grownInto (l .format .«vertex_width») (l .vertices) grown (h .vertices) (vertexBytes x)) is) k))
 
   -- No record is appended with it.
-  pub midpoint-records : midpointPut l (slices h base grown) ends w .header .records ≡ h .records
+  pub midpoint-records : (t : Slices) → t ≡ midpointPut l (slices h base grown) ends w → t .header .records ≡ h .records
   unfolding midpointPut
-  midpoint-records = go (eqb w (h .vertices)) (vertexPut l (slices h base grown) (h .vertices) (midpointOf (vertexIn l base grown) ends))
+  midpoint-records t is =
+      ap (λ (s : Slices). s .header .records) is ∙ go (eqb w (h .vertices)) (vertexPut l (slices h base grown) (h .vertices) (midpointOf (vertexIn l base grown) ends))
     where
-      go : (b : Bool) (t : Slices) → cond b (headed (oneVertexMore h) t) (slices h base grown) .header .records ≡ h .records
-      go true t = refl
-      go false t = refl
+      go : (b : Bool) (u : Slices) → cond b (headed (oneVertexMore h) u) (slices h base grown) .header .records ≡ h .records
+      go true u = refl
+      go false u = refl
 
 -- ---- the children
 
@@ -78,31 +79,23 @@ module _ (l : Layout) (h : Header) (base grown : List ℕ) (n : ℕ) (r : Record
 
 -- ---- the whole cut
 
-module _ (l : Layout) (h : Header) (base grown : List ℕ) (n : ℕ) where
+module _ (l : Layout) (h : Header) (base grown : List ℕ) (n w : ℕ) where
   -- No room for a vertex, or for two records: nothing is cut.
-  pub no-vertex-room : l .vertices .end ≤ h .vertices → slices h base grown ≡ cutPut l (slices h base grown) n
-  unfolding cutPut hasRoom
+  pub no-vertex-room : l .vertices .end ≤ h .vertices → slices h base grown ≡ cutWith l (slices h base grown) n w
+  unfolding cutWith hasRoom
   no-vertex-room e = rw (le-ltb (h .vertices) (l .vertices .end) e)
 
-  pub no-record-room : l .records .end ≤ h .records + 1 → slices h base grown ≡ cutPut l (slices h base grown) n
-  unfolding cutPut hasRoom
+  pub no-record-room : l .records .end ≤ h .records + 1 → slices h base grown ≡ cutWith l (slices h base grown) n w
+  unfolding cutWith hasRoom
   no-record-room e = rw (le-ltb (h .records + 1) (l .records .end) e, and-false (ltb (h .vertices) (l .vertices .end)))
 
   pub cut-written : h .vertices < l .vertices .end → h .records + 1 < l .records .end → (r : Record) → r ≡ recordIn l base grown n → (ends : Ends) → ends ≡ refinementEnds (r .piece) →
-      (w : ℕ) → w ≡ vertexWith (tables h l base grown) ends → (s t : Slices) → s ≡ midpointPut l (slices h base grown) ends w → t ≡ childrenPut l s n r w →
-      t ≡ cutPut l (slices h base grown) n
-  unfolding cutPut hasRoom
-  cut-written v e r is ends these w found s t half all =
-      let first : r ≡ recordIn l base grown n = is in
+      (s t : Slices) → s ≡ midpointPut l (slices h base grown) ends w → t ≡ childrenPut l s n r w →
+      t ≡ cutWith l (slices h base grown) n w
+  unfolding cutWith hasRoom
+  cut-written v e r is ends these s t half all =
       rw (lt-ltb (h .vertices) (l .vertices .end) v, lt-ltb (h .records + 1) (l .records .end) e)
       (all
       ∙ ap (λ (x : Slices). childrenPut l x n r w) half
-      ∙ go r is ends these w found)
-    where
-      go : (r : Record) → r ≡ recordIn l base grown n → (ends : Ends) → ends ≡ refinementEnds (r .piece) → (w : ℕ) → w ≡ vertexWith (tables h l base grown) ends →
-          childrenPut l (midpointPut l (slices h base grown) ends w) n r w
-          ≡ childrenPut l (midpointPut l (slices h base grown) (refinementEnds (recordIn l base grown n .piece)) (vertexWith (tables h l base grown) (refinementEnds (recordIn l base grown n .piece)))) n (recordIn l base grown n) (vertexWith (tables h l base grown) (refinementEnds (recordIn l base grown n .piece)))
-      go r is ends these w found =
-          ap (λ (x : ℕ). childrenPut l (midpointPut l (slices h base grown) ends x) n r x) found
-          ∙ ap (λ (x : Ends). childrenPut l (midpointPut l (slices h base grown) x (vertexWith (tables h l base grown) x)) n r (vertexWith (tables h l base grown) x)) these
-          ∙ ap (λ (x : Record). childrenPut l (midpointPut l (slices h base grown) (refinementEnds (x .piece)) (vertexWith (tables h l base grown) (refinementEnds (x .piece)))) n x (vertexWith (tables h l base grown) (refinementEnds (x .piece)))) is
+      ∙ ap (λ (x : Ends). childrenPut l (midpointPut l (slices h base grown) x w) n r w) these
+      ∙ ap (λ (x : Record). childrenPut l (midpointPut l (slices h base grown) (refinementEnds (x .piece)) w) n x w) is)

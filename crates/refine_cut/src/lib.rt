@@ -7,10 +7,10 @@ use stored::Record;
 use stored::Vertex;
 ghost use mathlib.Core.Path.{_≡_};
 ghost use Prim.Native.Nat.{_+_, _<_};
-ghost use Rattle.stored.specs.Layout.{vertexIn};
-ghost use Rattle.check_refusals.specs.Tables.{tables};
+ghost use Rattle.stored.specs.Layout.{vertexIn, recordIn};
+ghost use Rattle.check_refusals.specs.Tables.{tables, vertexWith, refinementEnds};
 ghost use Rattle.refine_cut.specs.Cut.{midpointOf, cutAt};
-ghost use Rattle.refine_cut.specs.Slices.{slices, midpointPut, childrenPut, cutPut};
+ghost use Rattle.refine_cut.specs.Slices.{slices, midpointPut, childrenPut, cutWith};
 ghost use Rattle.refine_cut.specs.Law.{Ready};
 
 // The vertex that a cut makes on the edge with these ends.
@@ -35,12 +35,12 @@ fn put_midpoint(
     base: &mut [u8],
     grown: &mut [u8],
     ends: Ends,
-    w: usize,
+    w: u32,
 ) -> Header
     requires { ⌜ h .vertices + 1 < 4294967296 ⌝ }
     ensures { λ r. ⌜ slices r (now (base .exit)) (now (grown .exit)) ≡ midpointPut l (slices h (now (base .entry)) (now (grown .entry))) ends w ⌝ }
 {
-    if w != h.vertices as usize {
+    if w != h.vertices {
         return h;
     }
     let v = midpoint(l, base, grown, ends);
@@ -112,10 +112,10 @@ fn put_children(
     }
 }
 
-// Cuts record n, where one vertex and two records more have room.
-pub fn cut(h: Header, l: Layout, base: &mut [u8], grown: &mut [u8], n: usize) -> Header
-    ensures bytes { λ r. ⌜ slices r (now (base .exit)) (now (grown .exit)) ≡ cutPut l (slices h (now (base .entry)) (now (grown .entry))) n ⌝ }
-    ensures cuts { λ r. ⌜ (Ready l (slices h (now (base .entry)) (now (grown .entry))) n → tables r l (now (base .exit)) (now (grown .exit)) ≡ cutAt (tables h l (now (base .entry)) (now (grown .entry))) n) ⌝ }
+// Cuts record n at vertex w, where one vertex and two records more have room; w is appended where it is the count of vertices.
+pub fn cut_at(h: Header, l: Layout, base: &mut [u8], grown: &mut [u8], n: usize, w: u32) -> Header
+    ensures bytes { λ r. ⌜ slices r (now (base .exit)) (now (grown .exit)) ≡ cutWith l (slices h (now (base .entry)) (now (grown .entry))) n w ⌝ }
+    ensures cuts { λ r. ⌜ (Ready l (slices h (now (base .entry)) (now (grown .entry))) n → w ≡ vertexWith (tables h l (now (base .entry)) (now (grown .entry))) (refinementEnds (recordIn l (now (base .entry)) (now (grown .entry)) n .piece)) → tables r l (now (base .exit)) (now (grown .exit)) ≡ cutAt (tables h l (now (base .entry)) (now (grown .entry))) n) ⌝ }
 {
     let vertices = l.vertices;
     let records = l.records;
@@ -128,7 +128,6 @@ pub fn cut(h: Header, l: Layout, base: &mut [u8], grown: &mut [u8], n: usize) ->
     let r = stored_entries::record_in(l, base, grown, n);
     let p = r.piece;
     let ends = piece::ends_of(p, p.edge);
-    let w = check_parents::vertex_with(h, l, base, grown, ends);
     let with = put_midpoint(h, l, base, grown, ends, w);
-    put_children(with, l, base, grown, n, r, w as u32)
+    put_children(with, l, base, grown, n, r, w)
 }

@@ -2,11 +2,12 @@
 use mathlib.Core.Path.{_≡_, refl, sym, ap, ap₂, _∙_, subst}
 use mathlib.Core.Bool.{Bool, true, false, not, cond, _&&_}
 use mathlib.Core.Logic.{_≢_}
-use Prim.Native.Nat.{ℕ, zero, suc, _+_, _≤_, _<_}
+use Prim.Native.Nat.{ℕ, zero, suc, _+_, _*_, _≤_, _<_}
 use native.Mathlib.Nat.{le-refl}
 use native.Mathlib.Omega.{arith}
+use lib.ListN.{length}
 use lib.Dec.{eqb, ltb}
-use borrow.Author.Tests.{ltb-false}
+use borrow.Author.Tests.{ltb-false, le-ltb}
 use Rattle.laws.specs.Below.{or-left-false, or-right-false, putAt, any-same, put-other}
 use Rattle.laws.specs.Lists.{Bytes}
 use Rattle.piece.specs.declared.Ends.{Ends}
@@ -16,8 +17,8 @@ use Rattle.stored.specs.declared.Layout.{Layout}
 use Rattle.stored.specs.declared.Header.{Header}
 use Rattle.stored.specs.declared.Vertex.{Vertex}
 use Rattle.stored.specs.declared.Record.{Record}
-use Rattle.stored.specs.Layout.{storedNone, vertexIn, recordIn}
-use Rattle.stored.specs.Tables.{Holds}
+use Rattle.stored.specs.Layout.{storedNone, vertexWidth, recordWidth, limits, vertexIn, recordIn}
+use Rattle.stored.specs.Tables.{Holds, working-holds}
 use Rattle.check_refusals.specs.Tables.{Tables, allVertices, allRecords, pieceAt, uncut, hasParents, vertexWith, hangs, refinementEnds}
 use Rattle.check_refusals.specs.Refusals.{hangsAt, leafHangs, hangingEdge}
 use Rattle.piece_cut.specs.Cut.{cutOf}
@@ -25,7 +26,7 @@ use Rattle.refine_cut.specs.Cut.{oneVertexMore, midpointOf, withMidpoint, cutRe
 use Rattle.refine_cut.specs.Slices.{Slices, tablesIn, cutPut}
 use Rattle.refine_cut.specs.Law.{Ready, cut-tables, cut-holds-on, cut-bytes}
 use Rattle.refine_pass.specs.Passes.{exceeds, turn, passBelow, pass, closing, refined}
-use Rattle.refine_pass.specs.Puts.{turnPut, turnsPut, passPut, hangsSince, closingPut, refinedPut}
+use Rattle.refine_pass.specs.Puts.{turnPut, turnsPut, passPut, hangsSince, closingPut, refinedPut, work}
 
 -- ---- what a cut leaves as it was
 
@@ -130,13 +131,30 @@ within most h e = (
   ltb-false (most .records) (h .records) (or-right-false (ltb (most .vertices) (h .vertices)) (ltb (most .records) (h .records)) e),
 )
 
+-- And so the other way round.
+pub not-exceeds : (most : Limits) (h : Header) → h .vertices ≤ most .vertices → h .records ≤ most .records → exceeds most h ≡ false
+unfolding exceeds
+not-exceeds most h v r = rw (le-ltb (most .vertices) (h .vertices) v, le-ltb (most .records) (h .records) r)
+
+-- Slices that are long enough hold tables to work on.
+pub can-begin : (s : Slices) → vertexWidth * (limits .vertices + 1) ≤ length (s .base) → recordWidth * (limits .records + 2) ≤ length (s .grown) → Bytes (s .base) × Bytes (s .grown) → Working limits work s
+can-begin s long deep bytes =
+    record {
+      holds = working-holds (limits .vertices + 1) (limits .records + 2) (s .base) (s .grown) long deep;
+      bytes = bytes;
+      vertices = refl;
+      records = refl;
+      few-vertices = omega arith;
+      few-records = omega arith;
+    }
+
 -- The tables of t are m, and t is still to be worked on.
 record Gives (most : Limits) (l : Layout) (t : Slices) (m : Tables) : Type 0 where
   same : tablesIn l t ≡ m
   working : Working most l t
 
 module _ (most : Limits) (l : Layout) where
-  ready : (s : Slices) (n : ℕ) → Working most l s → exceeds most (s .header) ≡ false → n < s .header .records → Ready l s n
+  pub ready : (s : Slices) (n : ℕ) → Working most l s → exceeds most (s .header) ≡ false → n < s .header .records → Ready l s n
   ready s n w e there =
       let (v, r) = within most (s .header) e in
       record {
@@ -150,28 +168,26 @@ module _ (most : Limits) (l : Layout) where
         there = there;
       }
 
+  -- A cut leaves them to work on.
+  pub cut-working : (s : Slices) (n : ℕ) → Working most l s → exceeds most (s .header) ≡ false → n < s .header .records → Working most l (cutPut l s n)
+  cut-working s n w e there =
+      let r = ready s n w e there in
+      record {
+        holds = cut-holds-on l s n r;
+        bytes = cut-bytes l s n r;
+        vertices = w .vertices;
+        records = w .records;
+        few-vertices = w .few-vertices;
+        few-records = w .few-records;
+      }
+
   turn-gives : (chosen : ℕ → Bool) (n : ℕ) (s : Slices) → Working most l s → n < s .header .records → Gives most l (turnPut most l (chosen n) n s) (turn most chosen n (tablesIn l s))
   unfolding turnPut turn
   turn-gives chosen n s w there = go (chosen n) (exceeds most (s .header)) refl
     where
-      cut : exceeds most (s .header) ≡ false → Gives most l (cutPut l s n) (cutAt (tablesIn l s) n)
-      cut e =
-          let r = ready s n w e there in
-          record {
-            same = cut-tables l s n r;
-            working = record {
-              holds = cut-holds-on l s n r;
-              bytes = cut-bytes l s n r;
-              vertices = w .vertices;
-              records = w .records;
-              few-vertices = w .few-vertices;
-              few-records = w .few-records;
-            };
-          }
-
       go : (b e : Bool) → exceeds most (s .header) ≡ e → Gives most l (cond (b && not e) (cutPut l s n) s) (cond (b && not e) (cutAt (tablesIn l s) n) (tablesIn l s))
       go true true h = record { same = refl; working = w }
-      go true false h = cut h
+      go true false h = record { same = cut-tables l s n (ready s n w h there); working = cut-working s n w h there }
       go false e h = record { same = refl; working = w }
 
   -- Each turn chooses as it was chosen when the pass began.

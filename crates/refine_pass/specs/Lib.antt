@@ -3,4 +3,5 @@ pub mod Passes
 pub mod Puts
 pub mod Steps
 pub mod Law
+pub mod Linked
 pub mod Stays

@@ -1,8 +1,11 @@
 -- The passes in two slices, byte for byte.
 use mathlib.Core.Bool.{Bool, not, cond, _&&_}
-use Prim.Native.Nat.{ℕ, zero, suc}
+use Prim.Native.Nat.{ℕ, zero, suc, _+_, _*_}
+use lib.ListN.{length}
+use lib.Dec.{leb}
 use Rattle.stored.specs.declared.Limits.{Limits}
 use Rattle.stored.specs.declared.Layout.{Layout}
+use Rattle.stored.specs.Layout.{vertexWidth, recordWidth, limits, working}
 use Rattle.check_refusals.specs.Tables.{tables}
 use Rattle.check_refusals.specs.Refusals.{leafHangs, hangingEdge}
 use Rattle.refine_cut.specs.Slices.{Slices, tablesIn, cutPut}
@@ -34,3 +37,19 @@ closingPut most l (suc passes) s =
 -- Pass one, of the records that are chosen, and those after it.
 unfoldable pub refinedPut : Limits → Layout → (ℕ → Bool) → Slices → Slices
 refinedPut most l chosen s = closingPut most l (most .records) (passPut most l (λ t. chosen) s)
+
+-- ---- for every input
+
+-- Tables to work on: room for one vertex and two records more than there may be.
+abbrev pub work : Layout
+work = working (limits .vertices + 1) (limits .records + 2)
+
+-- The slices have that room, and there are no more vertices and records than there may be.
+unfoldable pub canWork : Slices → Bool
+canWork s =
+    not (exceeds limits (s .header))
+    && (leb (vertexWidth * (limits .vertices + 1)) (length (s .base)) && leb (recordWidth * (limits .records + 2)) (length (s .grown)))
+
+-- All passes, where they can be made; else nothing is cut.
+unfoldable pub refinedWithin : (ℕ → Bool) → Slices → Slices
+refinedWithin chosen s = let all = refinedPut limits work chosen s in cond (canWork s) all s

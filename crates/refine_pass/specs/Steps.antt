@@ -1,16 +1,20 @@
 -- The passes in two slices, turn by turn: from what each call leaves to what the definition says.
 use mathlib.Core.Path.{_≡_, refl, sym, ap, _∙_}
-use mathlib.Core.Bool.{Bool, true, false}
-use Prim.Native.Nat.{ℕ, zero, suc, _+_, _-_, _≤_, _<_}
+use mathlib.Core.Bool.{Bool, true, false, not}
+use Prim.Native.Nat.{ℕ, zero, suc, _+_, _-_, _*_, _≤_, _<_}
 use native.Mathlib.Numerals.{add-one}
 use native.Mathlib.Omega.{arith}
+use lib.ListN.{length}
+use lib.Dec.{leb}
+use borrow.Author.Tests.{le-leb, lt-leb}
 use Rattle.laws.specs.Below.{and-false}
 use Rattle.stored.specs.declared.Limits.{Limits}
 use Rattle.stored.specs.declared.Layout.{Layout}
+use Rattle.stored.specs.Layout.{vertexWidth, recordWidth, limits}
 use Rattle.check_refusals.specs.Refusals.{hangingEdge}
 use Rattle.refine_cut.specs.Slices.{Slices, tablesIn, cutPut}
 use Rattle.refine_pass.specs.Passes.{exceeds}
-use Rattle.refine_pass.specs.Puts.{turnPut, turnsPut, passPut, hangsSince, closingPut, refinedPut}
+use Rattle.refine_pass.specs.Puts.{turnPut, turnsPut, passPut, hangsSince, closingPut, refinedPut, work, canWork, refinedWithin}
 
 module _ (most : Limits) (l : Layout) where
   -- ---- a turn
@@ -48,10 +52,10 @@ module _ (most : Limits) (l : Layout) where
 
   -- ---- the closing
 
-  pub closing-rests : (passes : ℕ) (s : Slices) → hangingEdge (tablesIn l s) ≡ false → closingPut most l passes s ≡ s
+  pub closing-rests : (passes : ℕ) (s : Slices) (hangs : Bool) → hangs ≡ hangingEdge (tablesIn l s) → hangs ≡ false → closingPut most l passes s ≡ s
   unfolding closingPut
-  closing-rests zero s e = refl
-  closing-rests (suc passes) s e = rw e
+  closing-rests zero s hangs is e = refl
+  closing-rests (suc passes) s hangs is e = rw (← is, e)
 
   pub closing-beyond : (passes : ℕ) (s : Slices) → exceeds most (s .header) ≡ true → closingPut most l passes s ≡ s
   unfolding closingPut
@@ -63,16 +67,43 @@ module _ (most : Limits) (l : Layout) where
   closing-out zero s e = refl
   closing-out (suc passes) s e = absurd (omega arith)
 
-  pub closing-next : (passes : ℕ) (s t : Slices) → 0 < passes → hangingEdge (tablesIn l s) ≡ true → exceeds most (s .header) ≡ false → t ≡ passPut most l (hangsSince l s) s →
+  pub closing-next : (passes : ℕ) (s t : Slices) (hangs : Bool) → 0 < passes → hangs ≡ hangingEdge (tablesIn l s) → hangs ≡ true → exceeds most (s .header) ≡ false → t ≡ passPut most l (hangsSince l s) s →
       closingPut most l (passes - 1) t ≡ closingPut most l passes s
   unfolding closingPut
-  closing-next zero s t some h e is = absurd (omega arith)
-  closing-next (suc passes) s t some h e is =
+  closing-next zero s t hangs some found h e is = absurd (omega arith)
+  closing-next (suc passes) s t hangs some found h e is =
       let less : suc passes - 1 ≡ passes = omega arith in
-      rw (h, e) (ap (λ (k : ℕ). closingPut most l k t) less ∙ ap (closingPut most l passes) is)
+      rw (← found, h, e) (ap (λ (k : ℕ). closingPut most l k t) less ∙ ap (closingPut most l passes) is)
 
   -- ---- all passes
 
   pub refined-is : (chosen : ℕ → Bool) (s t u : Slices) → t ≡ passPut most l (λ x. chosen) s → u ≡ closingPut most l (most .records) t → u ≡ refinedPut most l chosen s
   unfolding refinedPut
   refined-is chosen s t u first all = all ∙ ap (closingPut most l (most .records)) first
+
+-- ---- for every input
+
+module _ (chosen : ℕ → Bool) (s : Slices) where
+  pub beyond-stays : exceeds limits (s .header) ≡ true → s ≡ refinedWithin chosen s
+  unfolding refinedWithin canWork
+  beyond-stays e = rw e
+
+  pub short-base-stays : length (s .base) < vertexWidth * (limits .vertices + 1) → s ≡ refinedWithin chosen s
+  unfolding refinedWithin canWork
+  short-base-stays e = rw (lt-leb (vertexWidth * (limits .vertices + 1)) (length (s .base)) e, and-false (not (exceeds limits (s .header))))
+
+  pub short-growth-stays : length (s .grown) < recordWidth * (limits .records + 2) → s ≡ refinedWithin chosen s
+  unfolding refinedWithin canWork
+  short-growth-stays e =
+      rw (
+        lt-leb (recordWidth * (limits .records + 2)) (length (s .grown)) e,
+        and-false (leb (vertexWidth * (limits .vertices + 1)) (length (s .base))),
+        and-false (not (exceeds limits (s .header))),
+      )
+
+  -- Where the passes can be made, they are.
+  pub refined-within : exceeds limits (s .header) ≡ false → vertexWidth * (limits .vertices + 1) ≤ length (s .base) → recordWidth * (limits .records + 2) ≤ length (s .grown) →
+      refinedWithin chosen s ≡ refinedPut limits work chosen s
+  unfolding refinedWithin canWork
+  refined-within few long deep =
+      rw (few, le-leb (vertexWidth * (limits .vertices + 1)) (length (s .base)) long, le-leb (recordWidth * (limits .records + 2)) (length (s .grown)) deep)

@@ -1,16 +1,22 @@
 // Refine's passes: "Pass one cuts the selected records; each later pass cuts every leaf that has a hanging edge when the pass begins; it
 // ends when there is none. Within a pass records go in rising number."
+//
+// The vertex with a parent pair is found along links, which are filled once when the passes begin; a vertex that a cut appends is put into them.
 use stored::Header;
 use stored::Layout;
 use stored::Limits;
 ghost use mathlib.Core.Path.{_≡_};
+ghost use Prim.Native.Nat.{_<_};
+ghost use Rattle.laws.specs.Links.{Chain};
 ghost use Rattle.stored.specs.Layout.{namedIn};
 ghost use Rattle.check_refusals.specs.Tables.{tables};
 ghost use Rattle.check_refusals.specs.Refusals.{hangingEdge};
+ghost use Rattle.check_parents.specs.Pairs.{keyOf};
 ghost use Rattle.refine_selection.specs.Selected.{isNamed};
-ghost use Rattle.refine_cut.specs.Slices.{slices};
+ghost use Rattle.refine_cut.specs.Slices.{slices, cutPut};
 ghost use Rattle.refine_pass.specs.Passes.{exceeds};
-ghost use Rattle.refine_pass.specs.Puts.{turnPut, passPut, hangsSince, closingPut, refinedPut};
+ghost use Rattle.refine_pass.specs.Puts.{turnPut, passPut, hangsSince, closingPut, refinedPut, refinedWithin};
+ghost use Rattle.refine_pass.specs.Linked.{Linked, Linking, AtWork};
 
 // Whether there are more vertices or more records than there may be.
 pub fn is_beyond(most: Limits, h: Header) -> bool
@@ -22,16 +28,57 @@ pub fn is_beyond(most: Limits, h: Header) -> bool
     most.records < h.records
 }
 
+// Record n is cut at the vertex with its refinement edge's ends for parents, which is looked for along the links.
+fn cut<'a>(
+    h: Header,
+    l: Layout,
+    base: &mut [u8],
+    grown: &mut [u8],
+    heads: &'a [u16],
+    nexts: &'a [u16],
+    n: usize,
+) -> Header
+    requires { ⌜ Linked (tables h l (now base) (now grown)) (now heads) (now nexts) ⌝ }
+    ensures { λ r. ⌜ slices r (now (base .exit)) (now (grown .exit)) ≡ cutPut l (slices h (now (base .entry)) (now (grown .entry))) n ⌝ }
+{
+    let ends = check_refusals::refinement_ends(l, base, grown, n);
+    let w = check_parents::first_with(h, l, base, grown, heads, nexts, ends);
+    refine_cut::cut_at(h, l, base, grown, n, w as u32)
+}
+
+// A vertex more than there were is put into the links.
+fn link_fresh<'a>(
+    was: u32,
+    h: Header,
+    l: Layout,
+    base: &'a [u8],
+    grown: &'a [u8],
+    heads: &mut [u16],
+    nexts: &mut [u16],
+)
+    requires { ⌜ Linking (tables h l (now base) (now grown)) was (now heads) (now nexts) ⌝ }
+    ensures { λ _. ⌜ Chain (keyOf (tables h l (now (base .entry)) (now (grown .entry)))) (h .vertices) (now (heads .exit)) (now (nexts .exit)) ⌝ }
+{
+    if was < h.vertices {
+        check_parents::link_vertex(h, l, base, grown, heads, nexts, was as usize);
+    }
+}
+
 fn turn(
     most: Limits,
     h: Header,
     l: Layout,
     base: &mut [u8],
     grown: &mut [u8],
+    heads: &mut [u16],
+    nexts: &mut [u16],
     chosen: bool,
     n: usize,
 ) -> Header
+    requires { ⌜ AtWork most l (slices h (now base) (now grown)) (now heads) (now nexts) ⌝ }
+    requires { ⌜ n < h .records ⌝ }
     ensures { λ r. ⌜ slices r (now (base .exit)) (now (grown .exit)) ≡ turnPut most l chosen n (slices h (now (base .entry)) (now (grown .entry))) ⌝ }
+    ensures { λ r. ⌜ AtWork most l (slices r (now (base .exit)) (now (grown .exit))) (now (heads .exit)) (now (nexts .exit)) ⌝ }
 {
     if !chosen {
         return h;
@@ -39,7 +86,9 @@ fn turn(
     if is_beyond(most, h) {
         return h;
     }
-    refine_cut::cut(h, l, base, grown, n)
+    let with = cut(h, l, base, grown, heads, nexts, n);
+    link_fresh(h.vertices, with, l, base, grown, heads, nexts);
+    with
 }
 
 // Pass one.
@@ -49,44 +98,66 @@ fn pass_selected(
     l: Layout,
     base: &mut [u8],
     grown: &mut [u8],
+    heads: &mut [u16],
+    nexts: &mut [u16],
     selection: &[u8],
     count: usize,
 ) -> Header
+    requires { ⌜ AtWork most l (slices h (now base) (now grown)) (now heads) (now nexts) ⌝ }
     ensures { λ r. ⌜ slices r (now (base .exit)) (now (grown .exit)) ≡ passPut most l (λ t. isNamed count (namedIn (now (selection .entry)))) (slices h (now (base .entry)) (now (grown .entry))) ⌝ }
+    ensures { λ r. ⌜ AtWork most l (slices r (now (base .exit)) (now (grown .exit))) (now (heads .exit)) (now (nexts .exit)) ⌝ }
 {
     let records = h.records as usize;
     let mut with = h;
     let mut n: usize = 0;
     while n < records {
         let chosen = refine_selection::is_named(selection, count, n);
-        with = turn(most, with, l, base, grown, chosen, n);
+        with = turn(most, with, l, base, grown, heads, nexts, chosen, n);
         n += 1;
     }
     with
 }
 
 // A later pass: what hangs is asked with the header that the tables had when it began.
-fn pass_hanging(most: Limits, h: Header, l: Layout, base: &mut [u8], grown: &mut [u8]) -> Header
+fn pass_hanging(
+    most: Limits,
+    h: Header,
+    l: Layout,
+    base: &mut [u8],
+    grown: &mut [u8],
+    heads: &mut [u16],
+    nexts: &mut [u16],
+) -> Header
+    requires { ⌜ AtWork most l (slices h (now base) (now grown)) (now heads) (now nexts) ⌝ }
     ensures { λ r. ⌜ slices r (now (base .exit)) (now (grown .exit)) ≡ passPut most l (hangsSince l (slices h (now (base .entry)) (now (grown .entry)))) (slices h (now (base .entry)) (now (grown .entry))) ⌝ }
+    ensures { λ r. ⌜ AtWork most l (slices r (now (base .exit)) (now (grown .exit))) (now (heads .exit)) (now (nexts .exit)) ⌝ }
 {
     let records = h.records as usize;
     let mut with = h;
     let mut n: usize = 0;
     while n < records {
-        let chosen = check_hanging::leaf_hangs(h, l, base, grown, n);
-        with = turn(most, with, l, base, grown, chosen, n);
+        let chosen = check_hanging::leaf_hangs(h, l, base, grown, heads, nexts, n);
+        with = turn(most, with, l, base, grown, heads, nexts, chosen, n);
         n += 1;
     }
     with
 }
 
-fn any_hangs<'a>(h: Header, l: Layout, base: &'a [u8], grown: &'a [u8]) -> bool
+fn any_hangs<'a>(
+    h: Header,
+    l: Layout,
+    base: &'a [u8],
+    grown: &'a [u8],
+    heads: &'a [u16],
+    nexts: &'a [u16],
+) -> bool
+    requires { ⌜ Linked (tables h l (now base) (now grown)) (now heads) (now nexts) ⌝ }
     ensures { λ r. ⌜ r ≡ hangingEdge (tables h l (now (base .entry)) (now (grown .entry))) ⌝ }
 {
     let count = h.records as usize;
     let mut n: usize = 0;
     while n < count {
-        if check_hanging::leaf_hangs(h, l, base, grown, n) {
+        if check_hanging::leaf_hangs(h, l, base, grown, heads, nexts, n) {
             return true;
         }
         n += 1;
@@ -95,36 +166,85 @@ fn any_hangs<'a>(h: Header, l: Layout, base: &'a [u8], grown: &'a [u8]) -> bool
 }
 
 // The later passes, until none hangs or the tables exceed their limits.
-fn close(most: Limits, h: Header, l: Layout, base: &mut [u8], grown: &mut [u8]) -> Header
+fn close(
+    most: Limits,
+    h: Header,
+    l: Layout,
+    base: &mut [u8],
+    grown: &mut [u8],
+    heads: &mut [u16],
+    nexts: &mut [u16],
+) -> Header
+    requires { ⌜ AtWork most l (slices h (now base) (now grown)) (now heads) (now nexts) ⌝ }
     ensures { λ r. ⌜ slices r (now (base .exit)) (now (grown .exit)) ≡ closingPut most l (most .records) (slices h (now (base .entry)) (now (grown .entry))) ⌝ }
 {
     let mut with = h;
     let mut left = most.records;
     while 0 < left {
-        if !any_hangs(with, l, base, grown) {
+        if !any_hangs(with, l, base, grown, heads, nexts) {
             return with;
         }
         if is_beyond(most, with) {
             return with;
         }
-        with = pass_hanging(most, with, l, base, grown);
+        with = pass_hanging(most, with, l, base, grown, heads, nexts);
         left -= 1;
     }
     with
 }
 
 // Pass one, and those after it.
-pub fn refined(
+fn passes(
     most: Limits,
     h: Header,
     l: Layout,
     base: &mut [u8],
     grown: &mut [u8],
+    heads: &mut [u16],
+    nexts: &mut [u16],
     selection: &[u8],
     count: usize,
 ) -> Header
+    requires { ⌜ AtWork most l (slices h (now base) (now grown)) (now heads) (now nexts) ⌝ }
     ensures { λ r. ⌜ slices r (now (base .exit)) (now (grown .exit)) ≡ refinedPut most l (isNamed count (namedIn (now (selection .entry)))) (slices h (now (base .entry)) (now (grown .entry))) ⌝ }
 {
-    let with = pass_selected(most, h, l, base, grown, selection, count);
-    close(most, with, l, base, grown)
+    let with = pass_selected(most, h, l, base, grown, heads, nexts, selection, count);
+    close(most, with, l, base, grown, heads, nexts)
+}
+
+// All passes on tables to work on; where the slices don't have them, or there are more vertices or records than there may be, nothing is cut.
+pub fn refined(
+    h: Header,
+    base: &mut [u8],
+    grown: &mut [u8],
+    selection: &[u8],
+    count: usize,
+) -> Header
+    ensures { λ r. ⌜ slices r (now (base .exit)) (now (grown .exit)) ≡ refinedWithin (isNamed count (namedIn (now (selection .entry)))) (slices h (now (base .entry)) (now (grown .entry))) ⌝ }
+{
+    let most = stored::limits_of_version_1();
+    if is_beyond(most, h) {
+        return h;
+    }
+    if base.len() < stored::WORKING_VERTEX_BYTES {
+        return h;
+    }
+    if grown.len() < stored::WORKING_RECORD_BYTES {
+        return h;
+    }
+    let l = stored::working_layout(most.vertices + 1, most.records + 2);
+    let mut heads = [0u16; check_parents::PAIR_HEADS];
+    let mut nexts = [0u16; stored::WORKING_VERTICES];
+    check_parents::link_pairs(h, l, base, grown, &mut heads, &mut nexts);
+    passes(
+        most,
+        h,
+        l,
+        base,
+        grown,
+        &mut heads,
+        &mut nexts,
+        selection,
+        count,
+    )
 }

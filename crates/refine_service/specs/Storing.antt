@@ -12,10 +12,8 @@ use borrow.Author.Tests.{eqb-true, eqb-false, lt-ltb, le-ltb, not-false}
 use Rattle.laws.specs.Lists.{Bytes, bytes-none, bytes-cons, bytes-take, bytes-drop, bytes-sets, clear-with}
 use Rattle.laws.specs.Numbers.{number-below}
 use Rattle.stored.specs.declared.Header.{Header}
-use Rattle.stored.specs.declared.Layout.{Layout}
-use Rattle.stored.specs.Layout.{headerWidth, vertexWidth, recordWidth, limits, lastRound, headerOf, rightLength, meshLength, layoutOf, working, vertexPart, recordPart, assembled, meshBytes, selectionOf, namedIn}
+use Rattle.stored.specs.Layout.{headerWidth, vertexWidth, recordWidth, limits, lastRound, headerOf, rightLength, meshLength, layoutOf, vertexPart, recordPart, assembled, meshBytes, selectionOf, namedIn}
 use Rattle.stored.specs.Meshes.{length-says, assembled-length}
-use Rattle.stored.specs.Tables.{working-holds}
 use Rattle.stored.specs.Worked.{copied-vertices, copied-records, assembled-mesh}
 use Rattle.check_refusals.specs.Tables.{Tables, tables, tablesOf}
 use Rattle.check_refusals.specs.Refusals.{wrongLength, wrongMark, wrongCounts}
@@ -24,16 +22,13 @@ use Rattle.check_refusals.specs.Bounded.{bounded}
 use Rattle.refine_selection.specs.Selected.{isNamed}
 use Rattle.refine_cut.specs.Slices.{slices, tablesIn}
 use Rattle.refine_pass.specs.Passes.{exceeds, refined}
-use Rattle.refine_pass.specs.Puts.{refinedPut}
-use Rattle.refine_pass.specs.Law.{within, Working, refined-tables, refined-working}
+use Rattle.refine_pass.specs.Puts.{refinedPut, work, refinedWithin}
+use Rattle.refine_pass.specs.Steps.{refined-within}
+use Rattle.refine_pass.specs.Law.{within, not-exceeds, Working, can-begin, refined-tables, refined-working}
 use Rattle.refine_pass.specs.Stays.{round-stays}
 use Rattle.refine_service.specs.Refine.{closed, nextRound, resultOf, selectionRows, resultRows, refineNumber, refineBytes}
 use Rattle.check_refusals.specs.Rows.{first-now, after-check}
 use Rattle.refine_service.specs.Order.{selectionNumber, not-last, after-selection}
-
--- Room for one vertex and two records more than there may be.
-abbrev pub work : Layout
-work = working (limits .vertices + 1) (limits .records + 2)
 
 -- ---- 19 and 20, of what the passes leave
 
@@ -136,7 +131,7 @@ module _ (mesh selection out : List ℕ) (h : Header) (c : Copied h mesh out) wh
       })
       ∙ ap (λ (g : Header). tables g (layoutOf g) mesh mesh) (c .header)
 
-  module _ (bytes : Bytes mesh) (with : Header) (base grown : List ℕ) (is : slices with base grown ≡ refinedPut limits work chosen (slices h copiedBase copiedGrown))
+  module _ (bytes : Bytes mesh) (with : Header) (base grown : List ℕ) (is : slices with base grown ≡ refinedWithin chosen (slices h copiedBase copiedGrown))
       (long : length base ≡ vertexWidth * (limits .vertices + 1)) (deep : length grown ≡ recordWidth * (limits .records + 2)) where
     vertex-bytes : Bytes (vertexPart h mesh)
     unfolding vertexPart
@@ -146,24 +141,28 @@ module _ (mesh selection out : List ℕ) (h : Header) (c : Copied h mesh out) wh
     unfolding recordPart
     record-bytes = bytes-take (recordWidth * h .records) (drop (headerWidth + vertexWidth * h .vertices) mesh) (bytes-drop (headerWidth + vertexWidth * h .vertices) mesh bytes)
 
+    base-there : vertexWidth * (limits .vertices + 1) ≤ length copiedBase
+    base-there = omega (arith, length-sets (replicate (vertexWidth * (limits .vertices + 1)) 0) 0 (vertexPart h mesh), length-replicate {A = ℕ} (vertexWidth * (limits .vertices + 1)) 0)
+
+    growth-there : recordWidth * (limits .records + 2) ≤ length copiedGrown
+    growth-there = omega (arith, length-sets (replicate (recordWidth * (limits .records + 2)) 0) 0 (recordPart h mesh), length-replicate {A = ℕ} (recordWidth * (limits .records + 2)) 0)
+
     begun : Working limits work (slices h copiedBase copiedGrown)
     begun =
-        record {
-          holds = working-holds (limits .vertices + 1) (limits .records + 2) copiedBase copiedGrown (omega (arith, length-sets (replicate (vertexWidth * (limits .vertices + 1)) 0) 0 (vertexPart h mesh), length-replicate {A = ℕ} (vertexWidth * (limits .vertices + 1)) 0)) (omega (arith, length-sets (replicate (recordWidth * (limits .records + 2)) 0) 0 (recordPart h mesh), length-replicate {A = ℕ} (recordWidth * (limits .records + 2)) 0));
-          bytes = (bytes-sets (replicate (vertexWidth * (limits .vertices + 1)) 0) 0 (vertexPart h mesh) (bytes-zeros (vertexWidth * (limits .vertices + 1))) vertex-bytes, bytes-sets (replicate (recordWidth * (limits .records + 2)) 0) 0 (recordPart h mesh) (bytes-zeros (recordWidth * (limits .records + 2))) record-bytes);
-          vertices = refl;
-          records = refl;
-          few-vertices = omega arith;
-          few-records = omega arith;
-        }
+        can-begin (slices h copiedBase copiedGrown) base-there growth-there
+        (bytes-sets (replicate (vertexWidth * (limits .vertices + 1)) 0) 0 (vertexPart h mesh) (bytes-zeros (vertexWidth * (limits .vertices + 1))) vertex-bytes, bytes-sets (replicate (recordWidth * (limits .records + 2)) 0) 0 (recordPart h mesh) (bytes-zeros (recordWidth * (limits .records + 2))) record-bytes)
+
+    -- Within the limits all passes are made.
+    made : slices with base grown ≡ refinedPut limits work chosen (slices h copiedBase copiedGrown)
+    made = is ∙ refined-within chosen (slices h copiedBase copiedGrown) (not-exceeds limits h (c .vertices) (c .records)) base-there growth-there
 
     ended : Working limits work (slices with base grown)
-    ended = subst (Working limits work) (sym is) (refined-working limits work chosen (slices h copiedBase copiedGrown) begun)
+    ended = subst (Working limits work) (sym made) (refined-working limits work chosen (slices h copiedBase copiedGrown) begun)
 
     worked : tables with work base grown ≡ closed mesh selection
     unfolding closed
     worked =
-        ap (tablesIn work) is
+        ap (tablesIn work) made
         ∙ refined-tables limits work chosen (slices h copiedBase copiedGrown) begun
         ∙ ap (refined limits chosen) copied-tables
 

@@ -106,20 +106,11 @@ fn store(mesh: &[u8], h: Header, selection: &[u8], out: &mut [u8]) -> u32
     ensures { λ _. ⌜ now (out .exit) ≡ laterBytes (now (mesh .entry)) (now (selection .entry)) (length (now (out .entry))) ⌝ }
 {
     let most = stored::limits_of_version_1();
-    let l = stored::working_layout(most.vertices + 1, most.records + 2);
     let mut base = [0u8; stored::WORKING_VERTEX_BYTES];
     let mut grown = [0u8; stored::WORKING_RECORD_BYTES];
     stored_written::copy_tables(mesh, h, &mut base, &mut grown);
     let s = stored_selections::selection_of(selection);
-    let with = refine_pass::refined(
-        most,
-        h,
-        l,
-        &mut base,
-        &mut grown,
-        selection,
-        s.count as usize,
-    );
+    let with = refine_pass::refined(h, &mut base, &mut grown, selection, s.count as usize);
     finish(most, with, &base, &grown, out)
 }
 

@@ -1,6 +1,6 @@
 // A slice read at an offset, whatever its length: past the end a byte reads as 0.
 ghost use mathlib.Core.Path.{_≡_};
-ghost use Prim.Native.Nat.{_*_, _<_};
+ghost use Prim.Native.Nat.{_+_, _*_, _<_};
 ghost use lib.ListN.{getD, take, drop};
 ghost use Rattle.laws.specs.Numbers.{number};
 
@@ -25,14 +25,25 @@ pub fn part(s: &[u8], at: usize, n: usize) -> &[u8]
 }
 
 // The little-endian number of two bytes.
+pub fn pair(low: u8, high: u8) -> u32
+    ensures { λ r. ⌜ r ≡ low + 256 * high ⌝ }
+    ensures { λ r. ⌜ r < 65536 ⌝ }
+{
+    (low as u32) + 256 * (high as u32)
+}
+
+// That of the two bytes from at on, with one test where both are there.
 pub fn two(s: &[u8], at: usize) -> u32
     ensures { λ r. ⌜ r ≡ number 2 (drop at (now (s .entry))) ⌝ }
     ensures { λ r. ⌜ r < 65536 ⌝ }
 {
-    let rest = after(s, at);
-    let low = byte(rest, 0);
-    let high = byte(rest, 1);
-    (low as u32) + 256 * (high as u32)
+    if s.len() < 2 {
+        return byte(s, at) as u32;
+    }
+    if at <= s.len() - 2 {
+        return pair(s[at], s[at + 1]);
+    }
+    byte(s, at) as u32
 }
 
 pub fn four(s: &[u8], at: usize) -> u32

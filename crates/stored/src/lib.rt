@@ -28,7 +28,9 @@ pub const RECORD_BYTES: usize = RECORDS * RECORD_WIDTH;
 pub const LARGEST: usize = HEADER_WIDTH + VERTEX_BYTES + RECORD_BYTES;
 
 // To work on: one vertex and two records more, so that a cut that exceeds the limits has room too.
-pub const WORKING_VERTEX_BYTES: usize = (VERTICES + 1) * VERTEX_WIDTH;
+pub const WORKING_VERTICES: usize = VERTICES + 1;
+
+pub const WORKING_VERTEX_BYTES: usize = WORKING_VERTICES * VERTEX_WIDTH;
 
 pub const WORKING_RECORD_BYTES: usize = (RECORDS + 2) * RECORD_WIDTH;
 

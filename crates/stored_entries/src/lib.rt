@@ -1,4 +1,4 @@
-// The vertices and records of a mesh's tables, read one by one.
+// The vertices and records of a mesh's tables, read one by one: whole, or one field alone.
 use grid::Place;
 use piece::Piece;
 use stored::Layout;
@@ -8,6 +8,10 @@ use stored::Table;
 use stored::Vertex;
 ghost use mathlib.Core.Path.{_≡_};
 ghost use mathlib.Core.List.{[], _∷_};
+ghost use Prim.Native.Nat.{_*_, _≤_, _<_};
+ghost use lib.ListN.{length, take, drop};
+ghost use Rattle.piece.specs.Shape.{shapeOf, mark};
+ghost use Rattle.piece.specs.Ends.{cornerAt};
 ghost use Rattle.stored.specs.Layout.{
   byteAt,
   u16At,
@@ -21,22 +25,50 @@ ghost use Rattle.stored.specs.Layout.{
   recordIn,
 };
 
+// Entry i of the entries of one width that begin at from, as far as it is there.
+fn entry_from(s: &[u8], from: usize, wide: usize, i: usize) -> &[u8]
+    requires { ⌜ (wide < 4294967296) × (i < 4294967295) ⌝ }
+    ensures { λ r. ⌜ now r ≡ take wide (drop (wide * i) (drop from (now (s .entry)))) ⌝ }
+{
+    if s.len() < from {
+        return &s[..0];
+    }
+    let table = &s[from..];
+    let at = wide * i;
+    let to = at + wide;
+    if to <= table.len() {
+        return &table[at..to];
+    }
+    slices::after(table, at)
+}
+
 // The part of the base slice or of the growth slice that holds entry i, chosen by its number against the count; past the end nothing.
 fn held<'a>(width: u32, t: Table, base: &'a [u8], grown: &'a [u8], i: usize) -> &'a [u8]
     ensures { λ r. ⌜ now r ≡ heldIn width t (now (base .entry)) (now (grown .entry)) i ⌝ }
 {
-    let wide = width as usize;
     if t.end as usize <= i {
-        return slices::part(base, 0, 0);
+        return &base[..0];
     }
     if i < t.count as usize {
-        return slices::part(slices::after(base, t.base), wide * i, wide);
+        return entry_from(base, t.base, width as usize, i);
     }
-    slices::part(
-        slices::after(grown, t.grown),
-        wide * (i - t.count as usize),
-        wide,
-    )
+    entry_from(grown, t.grown, width as usize, i - t.count as usize)
+}
+
+fn vertex_held<'a>(l: Layout, base: &'a [u8], grown: &'a [u8], i: usize) -> &'a [u8]
+    ensures { λ r. ⌜ now r ≡ heldIn (l .format .«vertex_width») (l .vertices) (now (base .entry)) (now (grown .entry)) i ⌝ }
+{
+    let format = l.format;
+    let vertices = l.vertices;
+    held(format.vertex_width, vertices, base, grown, i)
+}
+
+fn record_held<'a>(l: Layout, base: &'a [u8], grown: &'a [u8], i: usize) -> &'a [u8]
+    ensures { λ r. ⌜ now r ≡ heldIn (l .format .«record_width») (l .records) (now (base .entry)) (now (grown .entry)) i ⌝ }
+{
+    let format = l.format;
+    let records = l.records;
+    held(format.record_width, records, base, grown, i)
 }
 
 // A coordinate, as its place.
@@ -48,15 +80,20 @@ fn place(s: &[u8], at: usize) -> u16
 }
 
 // A vertex or record number, which may be none.
-fn number_or_none(s: &[u8], at: usize) -> u32
-    ensures { λ r. ⌜ r ≡ orNone (u16At (now (s .entry)) at) ⌝ }
+fn or_none(n: u32) -> u32
+    ensures { λ r. ⌜ r ≡ orNone n ⌝ }
 {
-    let n = slices::two(s, at);
     if n == stored::STORED_NONE {
         stored::NONE
     } else {
         n
     }
+}
+
+fn number_or_none(s: &[u8], at: usize) -> u32
+    ensures { λ r. ⌜ r ≡ orNone (u16At (now (s .entry)) at) ⌝ }
+{
+    or_none(slices::two(s, at))
 }
 
 fn vertex_from(entry: &[u8]) -> Vertex
@@ -77,21 +114,29 @@ fn vertex_from(entry: &[u8]) -> Vertex
 pub fn vertex_in<'a>(l: Layout, base: &'a [u8], grown: &'a [u8], i: usize) -> Vertex
     ensures { λ r. ⌜ r ≡ vertexIn l (now (base .entry)) (now (grown .entry)) i ⌝ }
 {
-    let format = l.format;
-    let vertices = l.vertices;
-    vertex_from(held(format.vertex_width, vertices, base, grown, i))
+    vertex_from(vertex_held(l, base, grown, i))
+}
+
+// Where a vertex stands, alone.
+pub fn place_in<'a>(l: Layout, base: &'a [u8], grown: &'a [u8], i: usize) -> Place
+    ensures { λ r. ⌜ r ≡ vertexIn l (now (base .entry)) (now (grown .entry)) i .place ⌝ }
+{
+    let entry = vertex_held(l, base, grown, i);
+    Place {
+        x: place(entry, 0),
+        y: place(entry, 2),
+        z: place(entry, 4),
+    }
 }
 
 // A vertex's parents alone, for searches.
 pub fn parents_in<'a>(l: Layout, base: &'a [u8], grown: &'a [u8], i: usize) -> Parents
     ensures { λ r. ⌜ r ≡ parentsOf (vertexIn l (now (base .entry)) (now (grown .entry)) i) ⌝ }
 {
-    let format = l.format;
-    let vertices = l.vertices;
-    let vertex = held(format.vertex_width, vertices, base, grown, i);
+    let entry = vertex_held(l, base, grown, i);
     Parents {
-        p: number_or_none(vertex, 6),
-        q: number_or_none(vertex, 8),
+        p: number_or_none(entry, 6),
+        q: number_or_none(entry, 8),
     }
 }
 
@@ -117,7 +162,8 @@ fn marks_from(entry: &[u8]) -> [u8; 4]
     ]
 }
 
-fn record_from(entry: &[u8]) -> Record
+// A record whose bytes may end early, field by field.
+fn short_record(entry: &[u8]) -> Record
     ensures { λ r. ⌜ r ≡ recordFrom (now (entry .entry)) ⌝ }
 {
     let corners = corners_from(entry);
@@ -138,20 +184,91 @@ fn record_from(entry: &[u8]) -> Record
     }
 }
 
+// A record that is all there.
+fn whole_record(entry: &[u8]) -> Record
+    requires { ⌜ 17 ≤ length (now entry) ⌝ }
+    ensures { λ r. ⌜ r ≡ recordFrom (now (entry .entry)) ⌝ }
+{
+    let corners = [
+        or_none(slices::pair(entry[0], entry[1])),
+        or_none(slices::pair(entry[2], entry[3])),
+        or_none(slices::pair(entry[4], entry[5])),
+        or_none(slices::pair(entry[6], entry[7])),
+    ];
+    let piece = Piece {
+        corners: corners,
+        edge: entry[8],
+        marks: [entry[9], entry[10], entry[11], entry[12]],
+        flag: entry[13],
+        generation: entry[14],
+    };
+    Record {
+        piece: piece,
+        first_child: or_none(slices::pair(entry[15], entry[16])),
+    }
+}
+
 pub fn record_in<'a>(l: Layout, base: &'a [u8], grown: &'a [u8], i: usize) -> Record
     ensures { λ r. ⌜ r ≡ recordIn l (now (base .entry)) (now (grown .entry)) i ⌝ }
 {
-    let format = l.format;
-    let records = l.records;
-    record_from(held(format.record_width, records, base, grown, i))
+    let entry = record_held(l, base, grown, i);
+    if entry.len() < stored::RECORD_WIDTH {
+        return short_record(entry);
+    }
+    whole_record(entry)
 }
 
-// The record's first child alone, for quick searches.
+// A record's fields, each alone: its corners, one of them, its refinement edge, its marks, one of them, flag, generation and first child.
+pub fn corners_in<'a>(l: Layout, base: &'a [u8], grown: &'a [u8], i: usize) -> [u32; 4]
+    ensures { λ r. ⌜ r ≡ recordIn l (now (base .entry)) (now (grown .entry)) i .piece .corners ⌝ }
+{
+    corners_from(record_held(l, base, grown, i))
+}
+
+pub fn corner_in<'a>(l: Layout, base: &'a [u8], grown: &'a [u8], i: usize, k: u8) -> u32
+    ensures { λ r. ⌜ r ≡ cornerAt (recordIn l (now (base .entry)) (now (grown .entry)) i .piece) k ⌝ }
+{
+    if k < 4 {
+        return number_or_none(record_held(l, base, grown, i), 2 * (k as usize));
+    }
+    0
+}
+
+pub fn edge_in<'a>(l: Layout, base: &'a [u8], grown: &'a [u8], i: usize) -> u8
+    ensures { λ r. ⌜ r ≡ recordIn l (now (base .entry)) (now (grown .entry)) i .piece .edge ⌝ }
+{
+    slices::byte(record_held(l, base, grown, i), 8)
+}
+
+pub fn marks_in<'a>(l: Layout, base: &'a [u8], grown: &'a [u8], i: usize) -> [u8; 4]
+    ensures { λ r. ⌜ r ≡ recordIn l (now (base .entry)) (now (grown .entry)) i .piece .marks ⌝ }
+{
+    marks_from(record_held(l, base, grown, i))
+}
+
+pub fn mark_in<'a>(l: Layout, base: &'a [u8], grown: &'a [u8], i: usize, j: u8) -> u8
+    ensures { λ r. ⌜ r ≡ mark (shapeOf (recordIn l (now (base .entry)) (now (grown .entry)) i .piece)) j ⌝ }
+{
+    if j < 4 {
+        return slices::byte(record_held(l, base, grown, i), 9 + (j as usize));
+    }
+    0
+}
+
+pub fn flag_in<'a>(l: Layout, base: &'a [u8], grown: &'a [u8], i: usize) -> u8
+    ensures { λ r. ⌜ r ≡ recordIn l (now (base .entry)) (now (grown .entry)) i .piece .flag ⌝ }
+{
+    slices::byte(record_held(l, base, grown, i), 13)
+}
+
+pub fn generation_in<'a>(l: Layout, base: &'a [u8], grown: &'a [u8], i: usize) -> u8
+    ensures { λ r. ⌜ r ≡ recordIn l (now (base .entry)) (now (grown .entry)) i .piece .generation ⌝ }
+{
+    slices::byte(record_held(l, base, grown, i), 14)
+}
+
 pub fn first_child_in<'a>(l: Layout, base: &'a [u8], grown: &'a [u8], i: usize) -> u32
     ensures { λ r. ⌜ r ≡ recordIn l (now (base .entry)) (now (grown .entry)) i .«first_child» ⌝ }
 {
-    let format = l.format;
-    let records = l.records;
-    let record = held(format.record_width, records, base, grown, i);
-    number_or_none(record, 15)
+    number_or_none(record_held(l, base, grown, i), 15)
 }

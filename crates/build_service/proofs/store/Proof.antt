@@ -9,6 +9,7 @@ use denote.Ref.{now}
 use mathlib.Core.List.{List}
 use Rattle.stored.specs.Layout.{limits, vertexWidth, recordWidth}
 use Rattle.stored.specs.Fitting.{HeaderFits}
+use Rattle.check_refusals.specs.Bounded.{Bounded, bounded}
 use Rattle.build_service.specs.Storing.{header-fits, vertices-held, records-held, plain-assembled, laterNumber, laterBytes}
 use Rattle.build_service.proofs.store.Statement.{statement}
 use Rattle.build_service.proofs.store.Tie as tie
@@ -27,6 +28,7 @@ finish-requires c κs =
     let then = c .before .before .before .before .before .put-records in
     let deep = ap length (first .ensures .1) ∙ length-replicate {A = ℕ} (recordWidth * limits .records) 0 in
     record {
+      bounded = subst Bounded (sym (h .ensures)) (bounded _ right);
       fits = subst HeaderFits (sym (h .ensures)) (header-fits (a .job) coordinates corners right (omega (arith, c .before .before .before .before .before .before .before .before .before .before .before .before .before .before .before .before .fits .job)));
       vertices-there = vertices-held (a .job) coordinates corners right (h .result) (h .ensures) (replicate (vertexWidth * limits .vertices) 0) (first .last .1 .0) (then .last .0) (then .last .1 .0) (length-replicate {A = ℕ} (vertexWidth * limits .vertices) 0) deep (then .ensures .0 ∙ first .ensures .0) (then .ensures .1);
       records-there = records-held (a .job) coordinates corners right (h .result) (h .ensures) (replicate (vertexWidth * limits .vertices) 0) (first .last .1 .0) (then .last .0) (then .last .1 .0) (length-replicate {A = ℕ} (vertexWidth * limits .vertices) 0) deep (then .ensures .0 ∙ first .ensures .0) (then .ensures .1);

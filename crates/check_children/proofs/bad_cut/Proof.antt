@@ -1,21 +1,22 @@
 -- `check_children::bad_cut`: each way out is one case of the definition, at what the calls return.
 -- Assumes nothing.
 use borrow.Author.Needs.{needs}
-use mathlib.Core.Path.{sym, _∙_, ap}
-use denote.Ref.{now}
-use Rattle.stored.specs.declared.Record.{Record}
-use Rattle.check_refusals.specs.Tables.{tables}
-use Rattle.check_refusals.specs.Refusals.{badChildren, badCut}
+use mathlib.Core.Path.{sym, _∙_}
+use Rattle.check_refusals.specs.Refusals.{badCut}
+use Rattle.check_children.specs.Midpoints.{midpointCounted}
 use Rattle.check_children.proofs.bad_cut.Statement.{statement}
 use Rattle.check_children.proofs.bad_cut.Tie as tie
 
 returns : tie.Need-returns
-unfolding badCut
-returns c = rw (sym (c .before .is-leaf .ensures) ∙ c .if1 .taken)
+unfolding badCut midpointCounted
+returns c = (rw (sym (c .before .is-leaf .ensures) ∙ c .if1 .taken), rw (sym (c .before .is-leaf .ensures) ∙ c .if1 .taken))
+
+bad-children-requires : tie.Need-bad-children-requires
+bad-children-requires c κs = rw (c .record-in .ensures, ← c .before .before .before .before .before .before .refinement-ends .ensures) (c .before .before .before .before .before .vertex-with .ensures)
 
 returns-2 : tie.Need-returns-2
-unfolding badCut
-returns-2 c = rw (sym (c .before .before .before .is-leaf .ensures) ∙ c .before .before .if1 .left) (c .bad-children .ensures ∙ ap (λ (r : Record). badChildren (tables (c .before .before .before .before .before .before .args .h) (c .before .before .before .before .before .before .args .l) (now (c .before .before .before .before .before .before .args .base)) (now (c .before .before .before .before .before .before .args .grown))) (c .before .before .before .before .before .before .args .n) r) (c .before .record-in .ensures))
+unfolding badCut midpointCounted
+returns-2 c = (rw (c .bad-children .ensures, c .before .record-in .ensures, sym (c .before .before .before .before .before .before .before .before .before .is-leaf .ensures) ∙ c .before .before .before .before .before .before .before .before .if1 .left), rw (c .before .before .before .before .count .ensures, c .before .before .before .before .before .before .vertex-with .ensures, c .before .before .before .before .before .before .before .refinement-ends .ensures, sym (c .before .before .before .before .before .before .before .before .before .is-leaf .ensures) ∙ c .before .before .before .before .before .before .before .before .if1 .left))
 
 pub bad-cut-spec : {M : Type 1} → statement M
-bad-cut-spec = tie.close (tie.spec (λ c κs. search needs) returns (λ c κs. search needs) (λ c κs. search needs) returns-2)
+bad-cut-spec = tie.close (tie.spec (λ c κs. search needs) returns (λ c κs. search needs) (λ c κs. search needs) (λ c κs. search needs) (λ c κs. search needs) bad-children-requires (λ c. search needs) returns-2)

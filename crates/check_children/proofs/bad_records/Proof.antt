@@ -1,34 +1,13 @@
--- `check_children::bad_records` has found no bad record before n.
+-- `check_children::bad_records` asks the table that it has filled.
 -- Assumes nothing.
 use borrow.Author.Needs.{needs}
-use Prim.Native.Nat.{_≤_, _-_}
-use mathlib.Core.Path.{_≡_, sym, _∙_}
-use mathlib.Core.Bool.{false}
-use native.Mathlib.Omega.{arith}
-use denote.Ref.{now}
-use Rattle.laws.specs.Below.{anyBelow, any-none, any-next, any-is, any-end}
-use Rattle.check_refusals.specs.Tables.{tables}
-use Rattle.check_refusals.specs.Refusals.{badRecord}
+use mathlib.Core.Path.{_∙_}
+use Rattle.check_children.specs.Children.{any-bad-record-is}
 use Rattle.check_children.proofs.bad_records.Statement.{statement}
 use Rattle.check_children.proofs.bad_records.Tie as tie
 
-abbrev Inv-loop : tie.InvT-loop
-Inv-loop h l base grown count n₀ n = (n ≤ (h .records)) × (anyBelow n (badRecord (tables h l base grown)) ≡ false)
-
-abbrev μ-loop : tie.MeasureT-loop
-μ-loop h l base grown count n₀ n = (h .records) - n
-
-loop-holds : tie.Need-loop-holds Inv-loop μ-loop
-loop-holds c = (omega arith, any-none (badRecord (tables (c .before .before .before .args .h) (c .before .before .before .args .l) (now (c .before .before .before .args .base)) (now (c .before .before .before .args .grown)))))
-
-returns : tie.Need-returns Inv-loop μ-loop
-returns c = sym (any-is (badRecord (tables (c .before .before .before .before .before .before .before .args .h) (c .before .before .before .before .before .before .before .args .l) (now (c .before .before .before .before .before .before .before .args .base)) (now (c .before .before .before .before .before .before .before .args .grown)))) ((c .before .before .before .before .before .before .before .args .h) .records) (c .before .before .before .loop .n) (c .before .before .loop-test .taken) (sym (c .before .bad-record .ensures) ∙ c .if1 .taken))
-
-loop-again : tie.Need-loop-again Inv-loop μ-loop
-loop-again c = (omega arith, any-next (badRecord (tables (c .before .before .before .before .before .before .before .args .h) (c .before .before .before .before .before .before .before .args .l) (now (c .before .before .before .before .before .before .before .args .base)) (now (c .before .before .before .before .before .before .before .args .grown)))) (c .before .before .before .loop .n) (c .before .before .before .loop .inv .1) (sym (c .before .bad-record .ensures) ∙ c .if1 .left))
-
-returns-2 : tie.Need-returns-2 Inv-loop μ-loop
-returns-2 c = sym (any-end (badRecord (tables (c .before .before .before .before .before .args .h) (c .before .before .before .before .before .args .l) (now (c .before .before .before .before .before .args .base)) (now (c .before .before .before .before .before .args .grown)))) ((c .before .before .before .before .before .args .h) .records) (c .before .loop .n) (c .loop-test .left) (c .before .loop .inv .0) (c .before .loop .inv .1))
+returns : tie.Need-returns
+returns c = (c .before .before .any-bad-record .ensures .0 ∙ any-bad-record-is _ _ (c .before .before .before .before .before .before .before .before .before .before .before .before .before .before .pre .1) (c .before .before .before .before .before .before .count-all-children .ensures), c .before .before .any-bad-record .ensures .1)
 
 pub bad-records-spec : {M : Type 1} → statement M
-bad-records-spec = tie.close (tie.spec Inv-loop μ-loop (λ c. search needs) loop-holds (λ c κs. search needs) returns (λ c. search needs) (λ c. search needs) loop-again returns-2)
+bad-records-spec = tie.close (tie.spec (λ c. search needs) (λ c. search needs) (λ c κs. search needs) (λ c. search needs) (λ c κs. search needs) (λ c. search needs) returns)

@@ -1,34 +1,33 @@
--- `check_children::no_midpoints` has found every vertex before v a midpoint.
+-- `check_children::no_midpoints` has passed no vertex before v that is not used.
 -- Assumes nothing.
 use borrow.Author.Needs.{needs}
 use Prim.Native.Nat.{_≤_, _-_}
 use mathlib.Core.Path.{_≡_, sym, _∙_}
 use mathlib.Core.Bool.{false}
 use native.Mathlib.Omega.{arith}
-use denote.Ref.{now}
 use Rattle.laws.specs.Below.{anyBelow, any-none, any-next, any-is, any-end}
 use Rattle.check_refusals.specs.Tables.{tables}
-use Rattle.check_refusals.specs.Refusals.{noMidpoint}
+use Rattle.check_children.specs.Midpoints.{noMidpointBy}
 use Rattle.check_children.proofs.no_midpoints.Statement.{statement}
 use Rattle.check_children.proofs.no_midpoints.Tie as tie
 
 abbrev Inv-loop : tie.InvT-loop
-Inv-loop h l base grown count v₀ v = (v ≤ (h .vertices)) × (anyBelow v (noMidpoint (tables h l base grown)) ≡ false)
+Inv-loop h l base grown heads nexts used count v₀ v = (v ≤ h .vertices) × (anyBelow v (noMidpointBy (tables h l base grown) used) ≡ false)
 
 abbrev μ-loop : tie.MeasureT-loop
-μ-loop h l base grown count v₀ v = (h .vertices) - v
+μ-loop h l base grown heads nexts used count v₀ v = h .vertices - v
 
 loop-holds : tie.Need-loop-holds Inv-loop μ-loop
-loop-holds c = (omega arith, any-none (noMidpoint (tables (c .before .before .before .args .h) (c .before .before .before .args .l) (now (c .before .before .before .args .base)) (now (c .before .before .before .args .grown)))))
+loop-holds c = (omega arith, any-none _)
 
 returns : tie.Need-returns Inv-loop μ-loop
-returns c = sym (any-is (noMidpoint (tables (c .before .before .before .before .before .before .before .args .h) (c .before .before .before .before .before .before .before .args .l) (now (c .before .before .before .before .before .before .before .args .base)) (now (c .before .before .before .before .before .before .before .args .grown)))) ((c .before .before .before .before .before .before .before .args .h) .vertices) (c .before .before .before .loop .v) (c .before .before .loop-test .taken) (sym (c .before .no-midpoint .ensures) ∙ c .if1 .taken))
+returns c = sym (any-is _ _ _ (c .before .before .loop-test .taken) (sym (c .before .no-midpoint .ensures) ∙ c .if1 .taken))
 
 loop-again : tie.Need-loop-again Inv-loop μ-loop
-loop-again c = (omega arith, any-next (noMidpoint (tables (c .before .before .before .before .before .before .before .args .h) (c .before .before .before .before .before .before .before .args .l) (now (c .before .before .before .before .before .before .before .args .base)) (now (c .before .before .before .before .before .before .before .args .grown)))) (c .before .before .before .loop .v) (c .before .before .before .loop .inv .1) (sym (c .before .no-midpoint .ensures) ∙ c .if1 .left))
+loop-again c = (omega arith, any-next _ _ (c .before .before .before .loop .inv .1) (sym (c .before .no-midpoint .ensures) ∙ c .if1 .left))
 
 returns-2 : tie.Need-returns-2 Inv-loop μ-loop
-returns-2 c = sym (any-end (noMidpoint (tables (c .before .before .before .before .before .args .h) (c .before .before .before .before .before .args .l) (now (c .before .before .before .before .before .args .base)) (now (c .before .before .before .before .before .args .grown)))) ((c .before .before .before .before .before .args .h) .vertices) (c .before .loop .v) (c .loop-test .left) (c .before .loop .inv .0) (c .before .loop .inv .1))
+returns-2 c = sym (any-end _ _ _ (c .loop-test .left) (c .before .loop .inv .0) (c .before .loop .inv .1))
 
 pub no-midpoints-spec : {M : Type 1} → statement M
 no-midpoints-spec = tie.close (tie.spec Inv-loop μ-loop (λ c. search needs) loop-holds (λ c κs. search needs) returns (λ c. search needs) (λ c. search needs) loop-again returns-2)

@@ -3,6 +3,7 @@
 use borrow.Author.Needs.{needs}
 use borrow.Author.Tests.{lt-ltb, le-ltb}
 use Rattle.check_refusals.specs.Refusals.{badVertex}
+use Rattle.check_places.specs.Kept.{place-twice}
 use Rattle.check_places.proofs.bad_vertex.Statement.{statement}
 use Rattle.check_places.proofs.bad_vertex.Tie as tie
 
@@ -12,7 +13,7 @@ returns c = rw (lt-ltb _ _ (c .before .before .before .if1 .taken), ← c .befor
 
 returns-2 : tie.Need-returns-2
 unfolding badVertex
-returns-2 c = rw (lt-ltb _ _ (c .before .before .before .before .if1 .taken), ← c .before .before .before .vertex-in .ensures, ← c .before .before .bad-base-vertex .ensures, c .before .if2 .left) (c .place-twice .ensures)
+returns-2 c = rw (lt-ltb _ _ (c .before .before .before .before .before .if1 .taken), ← c .before .before .before .before .vertex-in .ensures, ← c .before .before .before .bad-base-vertex .ensures, c .before .before .if2 .left) (rw (c .place-along .ensures, c .before .before .before .before .vertex-in .ensures) (place-twice _ _ _ _ (c .before .before .before .before .before .before .before .before .before .before .before .before .before .pre .0) (c .before .before .before .before .before .if1 .taken)))
 
 returns-3 : tie.Need-returns-3
 unfolding badVertex

@@ -1,36 +1,21 @@
--- `check_places::bad_vertices` has found no bad vertex before v.
+-- `check_places::bad_vertices`: each way out is one case of the definition, and within the limits there is room for the links.
 -- Assumes nothing.
 use borrow.Author.Needs.{needs}
-use Prim.Native.Nat.{_≤_, _-_}
-use mathlib.Core.Path.{_≡_, sym, _∙_}
-use mathlib.Core.Bool.{false}
-use native.Mathlib.Omega.{arith}
-use denote.Ref.{now}
-use Rattle.laws.specs.Below.{anyBelow, any-none, any-next, any-is, any-end}
-use Rattle.check_refusals.specs.Tables.{tables}
-use Rattle.check_refusals.specs.Refusals.{badVertex, badVertices}
+use mathlib.Core.Path.{sym, _∙_}
+use Rattle.check_refusals.specs.Bounded.{orBeyond, room}
 use Rattle.check_places.proofs.bad_vertices.Statement.{statement}
 use Rattle.check_places.proofs.bad_vertices.Tie as tie
 
-abbrev Inv-loop : tie.InvT-loop
-Inv-loop h l base grown count v₀ v = (v ≤ (h .vertices)) × (anyBelow v (badVertex (tables h l base grown)) ≡ false)
+returns : tie.Need-returns
+unfolding orBeyond
+returns c = rw (← c .before .is-beyond .ensures, c .if1 .taken)
 
-abbrev μ-loop : tie.MeasureT-loop
-μ-loop h l base grown count v₀ v = (h .vertices) - v
+bad-within-requires : tie.Need-bad-within-requires
+bad-within-requires c κs = room _ (sym (c .before .is-beyond .ensures) ∙ c .if1 .left)
 
-loop-holds : tie.Need-loop-holds Inv-loop μ-loop
-loop-holds c = (omega arith, any-none (badVertex (tables (c .before .before .before .args .h) (c .before .before .before .args .l) (now (c .before .before .before .args .base)) (now (c .before .before .before .args .grown)))))
-
-returns : tie.Need-returns Inv-loop μ-loop
-unfolding badVertices
-returns c = sym (any-is (badVertex (tables (c .before .before .before .before .before .before .before .args .h) (c .before .before .before .before .before .before .before .args .l) (now (c .before .before .before .before .before .before .before .args .base)) (now (c .before .before .before .before .before .before .before .args .grown)))) ((c .before .before .before .before .before .before .before .args .h) .vertices) (c .before .before .before .loop .v) (c .before .before .loop-test .taken) (sym (c .before .bad-vertex .ensures) ∙ c .if1 .taken))
-
-loop-again : tie.Need-loop-again Inv-loop μ-loop
-loop-again c = (omega arith, any-next (badVertex (tables (c .before .before .before .before .before .before .before .args .h) (c .before .before .before .before .before .before .before .args .l) (now (c .before .before .before .before .before .before .before .args .base)) (now (c .before .before .before .before .before .before .before .args .grown)))) (c .before .before .before .loop .v) (c .before .before .before .loop .inv .1) (sym (c .before .bad-vertex .ensures) ∙ c .if1 .left))
-
-returns-2 : tie.Need-returns-2 Inv-loop μ-loop
-unfolding badVertices
-returns-2 c = sym (any-end (badVertex (tables (c .before .before .before .before .before .args .h) (c .before .before .before .before .before .args .l) (now (c .before .before .before .before .before .args .base)) (now (c .before .before .before .before .before .args .grown)))) ((c .before .before .before .before .before .args .h) .vertices) (c .before .loop .v) (c .loop-test .left) (c .before .loop .inv .0) (c .before .loop .inv .1))
+returns-2 : tie.Need-returns-2
+unfolding orBeyond
+returns-2 c = rw (← c .before .before .is-beyond .ensures, c .before .if1 .left) (c .bad-within .ensures)
 
 pub bad-vertices-spec : {M : Type 1} → statement M
-bad-vertices-spec = tie.close (tie.spec Inv-loop μ-loop (λ c. search needs) loop-holds (λ c κs. search needs) returns (λ c. search needs) (λ c. search needs) loop-again returns-2)
+bad-vertices-spec = tie.close (tie.spec (λ c κs. search needs) returns bad-within-requires returns-2)

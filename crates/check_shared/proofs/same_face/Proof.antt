@@ -2,17 +2,17 @@
 -- Assumes nothing.
 use borrow.Author.Needs.{needs}
 use mathlib.Core.Path.{sym, _∙_}
-use Rattle.check_refusals.specs.Refusals.{sameFace}
+use Rattle.check_shared.specs.Faces.{sameSet}
 use Rattle.check_shared.proofs.same_face.Statement.{statement}
 use Rattle.check_shared.proofs.same_face.Tie as tie
 
 returns : tie.Need-returns
-unfolding sameFace
-returns c = rw (sym (c .before .before .face-within .ensures) ∙ c .before .if1 .taken) (c .face-within2 .ensures)
+unfolding sameSet
+returns c = rw (sym (c .before .before .face-inside .ensures) ∙ c .before .if1 .taken) (c .face-inside2 .ensures)
 
 returns-2 : tie.Need-returns-2
-unfolding sameFace
-returns-2 c = rw (sym (c .before .face-within .ensures) ∙ c .if1 .left)
+unfolding sameSet
+returns-2 c = rw (sym (c .before .face-inside .ensures) ∙ c .if1 .left)
 
 pub same-face-spec : {M : Type 1} → statement M
 same-face-spec = tie.close (tie.spec (λ c κs. search needs) (λ c κs. search needs) returns returns-2)

@@ -21,4 +21,4 @@ returns-2 c =
     midpoint-appended (a .l) (a .h) (now (a .base)) (now (a .grown)) (a .ends) (a .w) (c .before .before .before .before .before .before .before .before .before .before .before .before .if1 .left) (v .result) (v .ensures) (put .last .1 .0) (put .last .1 .1 .0) (put .ensures .0) (put .ensures .1)
 
 pub put-midpoint-spec : {M : Type 1} → statement M
-put-midpoint-spec = tie.close (tie.spec (λ c. search needs) returns (λ c κs. search needs) (λ c. search needs) (λ c κs. search needs) add-t19 (λ c. search needs) (λ c. search needs) returns-2)
+put-midpoint-spec = tie.close (tie.spec returns (λ c κs. search needs) (λ c. search needs) (λ c κs. search needs) add-t19 (λ c. search needs) (λ c. search needs) returns-2)

@@ -1,61 +1,53 @@
 -- `refine_service::store`: the tables are copied, worked on and stored.
 -- Assumes nothing.
 use borrow.Author.Needs.{needs}
-use mathlib.Core.Path.{_≡_, ap, _∙_}
+use mathlib.Core.Path.{_≡_, _∙_}
 use Prim.Native.Nat.{_+_, _*_}
 use native.Mathlib.Omega.{arith}
 use lib.ListN.{length}
 use denote.Ref.{now}
 use Rattle.laws.specs.Lists.{Bytes}
-use Rattle.stored.specs.declared.Limits.{Limits}
-use Rattle.stored.specs.Layout.{vertexWidth, recordWidth, limits, working, selectionOf, namedIn}
+use Rattle.stored.specs.Layout.{vertexWidth, recordWidth, limits, selectionOf, namedIn}
 use Rattle.refine_selection.specs.Selected.{isNamed}
 use Rattle.refine_cut.specs.Slices.{slices}
-use Rattle.refine_pass.specs.Puts.{refinedPut}
-use Rattle.refine_service.specs.Storing.{work, copiedBase, copiedGrown, worked-assembled, later-number, later-bytes}
+use Rattle.refine_pass.specs.Puts.{refinedWithin}
+use Rattle.refine_service.specs.Storing.{copiedBase, copiedGrown, worked-assembled, later-number, later-bytes}
 use Rattle.refine_service.proofs.store.Statement.{statement}
 use Rattle.refine_service.proofs.store.Tie as tie
 
-add-working-layout : tie.Need-add-working-layout
-add-working-layout c = omega (arith, ap (λ (m : Limits). m .vertices) (c .before .limits-of-version-1 .ensures))
-
-add-working-layout-2 : tie.Need-add-working-layout-2
-add-working-layout-2 c = omega (arith, ap (λ (m : Limits). m .records) (c .before .before .limits-of-version-1 .ensures))
-
 finish-requires : tie.Need-finish-requires
 finish-requires c κs =
-    let a = c .before .before .before .before .before .before .before .before .before .before .before .before .before .before .before .before .before .before .before .before .before .before .args in
+    let a = c .before .before .before .before .before .before .before .before .before .before .before .before .before .before .before .before .before .before .before .args in
     let mesh = now (a .mesh) in
     let selection = now (a .selection) in
     let out = now (a .out) in
-    let pre = c .before .before .before .before .before .before .before .before .before .before .before .before .before .before .before .before .before .before .before .before .before .before .pre in
-    let most = c .before .before .before .before .before .before .before .before .before .before .before .before .before .before .before .before .before .before .limits-of-version-1 .ensures in
+    let pre = c .before .before .before .before .before .before .before .before .before .before .before .before .before .before .before .before .before .before .before .pre in
+    let most = c .before .before .before .before .before .before .before .before .before .before .before .before .before .before .before .limits-of-version-1 .ensures in
     let copied = c .before .before .before .before .before .before .before .before .before .before .before .before .copy-tables in
     let worked = c .before .before .before .before .before .refined in
-    let bytes : Bytes mesh = record { byte = λ k. omega (arith, c .before .before .before .before .before .before .before .before .before .before .before .before .before .before .before .before .before .before .before .before .before .shared-slice-known .given k) } in
-    let base = worked .last .1 .1 .1 .0 in
-    let grown = worked .last .1 .1 .1 .1 .0 in
-    let is : slices (worked .result) base grown ≡ refinedPut limits work (isNamed (selectionOf selection .count) (namedIn selection)) (slices (a .h) (copiedBase mesh selection out (a .h) pre) (copiedGrown mesh selection out (a .h) pre)) =
-    worked .ensures ∙ (λ i. refinedPut (most i) ((c .before .before .before .before .before .before .before .before .before .before .before .before .before .before .before .working-layout .ensures ∙ (λ j. working (most j .vertices + 1) (most j .records + 2))) i) (isNamed (c .before .before .before .before .before .before .before .before .before .selection-of .ensures i .count) (namedIn selection)) (slices (a .h) (copied .ensures .0 i) (copied .ensures .1 i))) in
+    let bytes : Bytes mesh = record { byte = λ k. omega (arith, c .before .before .before .before .before .before .before .before .before .before .before .before .before .before .before .before .before .before .shared-slice-known .given k) } in
+    let base = worked .last .1 .0 in
+    let grown = worked .last .1 .1 .0 in
+    let is : slices (worked .result) base grown ≡ refinedWithin (isNamed (selectionOf selection .count) (namedIn selection)) (slices (a .h) (copiedBase mesh selection out (a .h) pre) (copiedGrown mesh selection out (a .h) pre)) =
+    worked .ensures ∙ (λ i. refinedWithin (isNamed (c .before .before .before .before .before .before .before .before .before .selection-of .ensures i .count) (namedIn selection)) (slices (a .h) (copied .ensures .0 i) (copied .ensures .1 i))) in
     let long : length base ≡ vertexWidth * (limits .vertices + 1) = c .before .before .before .before .base4 .given in
     let deep : length grown ≡ recordWidth * (limits .records + 2) = c .before .before .before .grown4 .given in
     (most, worked-assembled mesh selection out (a .h) pre bytes (worked .result) base grown is long deep)
 
 returns : tie.Need-returns
 returns c =
-    let a = c .before .before .before .before .before .before .before .before .before .before .before .before .before .before .before .before .before .before .before .before .before .before .before .before .before .args in
+    let a = c .before .before .before .before .before .before .before .before .before .before .before .before .before .before .before .before .before .before .before .before .before .before .args in
     let mesh = now (a .mesh) in
     let selection = now (a .selection) in
     let out = now (a .out) in
-    let pre = c .before .before .before .before .before .before .before .before .before .before .before .before .before .before .before .before .before .before .before .before .before .before .before .before .before .pre in
-    let most = c .before .before .before .before .before .before .before .before .before .before .before .before .before .before .before .before .before .before .before .before .before .limits-of-version-1 .ensures in
+    let pre = c .before .before .before .before .before .before .before .before .before .before .before .before .before .before .before .before .before .before .before .before .before .before .pre in
     let copied = c .before .before .before .before .before .before .before .before .before .before .before .before .before .before .before .copy-tables in
     let worked = c .before .before .before .before .before .before .before .before .refined in
-    let bytes : Bytes mesh = record { byte = λ k. omega (arith, c .before .before .before .before .before .before .before .before .before .before .before .before .before .before .before .before .before .before .before .before .before .before .before .before .shared-slice-known .given k) } in
-    let base = worked .last .1 .1 .1 .0 in
-    let grown = worked .last .1 .1 .1 .1 .0 in
-    let is : slices (worked .result) base grown ≡ refinedPut limits work (isNamed (selectionOf selection .count) (namedIn selection)) (slices (a .h) (copiedBase mesh selection out (a .h) pre) (copiedGrown mesh selection out (a .h) pre)) =
-    worked .ensures ∙ (λ i. refinedPut (most i) ((c .before .before .before .before .before .before .before .before .before .before .before .before .before .before .before .before .before .before .working-layout .ensures ∙ (λ j. working (most j .vertices + 1) (most j .records + 2))) i) (isNamed (c .before .before .before .before .before .before .before .before .before .before .before .before .selection-of .ensures i .count) (namedIn selection)) (slices (a .h) (copied .ensures .0 i) (copied .ensures .1 i))) in
+    let bytes : Bytes mesh = record { byte = λ k. omega (arith, c .before .before .before .before .before .before .before .before .before .before .before .before .before .before .before .before .before .before .before .before .before .shared-slice-known .given k) } in
+    let base = worked .last .1 .0 in
+    let grown = worked .last .1 .1 .0 in
+    let is : slices (worked .result) base grown ≡ refinedWithin (isNamed (selectionOf selection .count) (namedIn selection)) (slices (a .h) (copiedBase mesh selection out (a .h) pre) (copiedGrown mesh selection out (a .h) pre)) =
+    worked .ensures ∙ (λ i. refinedWithin (isNamed (c .before .before .before .before .before .before .before .before .before .before .before .before .selection-of .ensures i .count) (namedIn selection)) (slices (a .h) (copied .ensures .0 i) (copied .ensures .1 i))) in
     let long : length base ≡ vertexWidth * (limits .vertices + 1) = c .before .before .before .before .before .before .before .base4 .given in
     let deep : length grown ≡ recordWidth * (limits .records + 2) = c .before .before .before .before .before .before .grown4 .given in
     (c .before .before .finish .ensures .0 ∙ later-number mesh selection out (a .h) pre bytes (worked .result) base grown is long deep (length out), c .before .before .finish .ensures .1 ∙ later-bytes mesh selection out (a .h) pre bytes (worked .result) base grown is long deep (length out))
@@ -64,9 +56,6 @@ pub store-spec : {M : Type 1} → statement M
 store-spec =
     tie.close
     (tie.spec
-    (λ c κs. search needs)
-    add-working-layout
-    add-working-layout-2
     (λ c κs. search needs)
     (λ c. search needs)
     (λ c. search needs)

@@ -1,4 +1,5 @@
 -- `slices::after` meets its contract: a part to the end is all that follows, and past the end nothing does.
+-- Assumes nothing.
 use borrow.Author.Needs.{needs}
 use mathlib.Core.Path.{sym}
 use Prim.Native.Nat.{_-_}

@@ -1,4 +1,5 @@
 -- `slices::byte` meets its contract: past the end the definition gives 0 too.
+-- Assumes nothing.
 use borrow.Author.Needs.{needs}
 use mathlib.Core.Path.{sym}
 use lib.ListN.{List·getD-eq-default}

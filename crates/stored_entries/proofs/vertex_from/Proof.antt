@@ -1,4 +1,5 @@
 -- `stored_entries::vertex_from` meets its contract: each field is the number that its call reads.
+-- Assumes nothing.
 use borrow.Author.Needs.{needs}
 use Rattle.stored.specs.Layout.{vertexFrom}
 use Rattle.stored_entries.proofs.vertex_from.Statement.{statement}

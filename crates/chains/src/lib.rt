@@ -1,0 +1,54 @@
+// Links and counts that are kept beside a table. Nothing is asked of the slices: past the end an entry reads as 0, and nothing is written there.
+ghost use mathlib.Core.Path.{_≡_};
+ghost use lib.ListN.{getD};
+ghost use Rattle.laws.specs.Links.{linksOf, pushed, linkAt, countedAt};
+
+// The number v is put before the others with key k, where there is room.
+pub fn push(heads: &mut [u16], nexts: &mut [u16], k: usize, v: usize)
+    ensures { λ _. ⌜ now (heads .exit) ≡ pushed (linksOf (now (heads .entry)) (now (nexts .entry))) k v .heads ⌝ }
+    ensures { λ _. ⌜ now (nexts .exit) ≡ pushed (linksOf (now (heads .entry)) (now (nexts .entry))) k v .nexts ⌝ }
+{
+    if heads.len() <= k {
+        return;
+    }
+    if nexts.len() <= v {
+        return;
+    }
+    if 65535 <= v {
+        return;
+    }
+    nexts[v] = heads[k];
+    heads[k] = (v + 1) as u16;
+}
+
+// From number u on, where its link leads: one more than that number, and 0 where there is none.
+pub fn link(nexts: &[u16], u: usize) -> usize
+    ensures { λ r. ⌜ r ≡ linkAt (now (nexts .entry)) u ⌝ }
+{
+    let to = at(nexts, u);
+    if to <= u { to } else { 0 }
+}
+
+// The entry at an index: a head, a link or a count; 0 past the end.
+pub fn at(table: &[u16], i: usize) -> usize
+    ensures { λ r. ⌜ r ≡ getD (now (table .entry)) i 0 ⌝ }
+{
+    if i < table.len() {
+        table[i] as usize
+    } else {
+        0
+    }
+}
+
+// One more at an index, if the table has it and one more fits an entry.
+pub fn count(table: &mut [u16], i: usize)
+    ensures { λ _. ⌜ now (table .exit) ≡ countedAt (now (table .entry)) i ⌝ }
+{
+    if table.len() <= i {
+        return;
+    }
+    if table[i] == 65535 {
+        return;
+    }
+    table[i] = table[i] + 1;
+}

@@ -1,0 +1,98 @@
+-- The first table that refusal 9 keeps: how often each record is the child of a cut one.
+use mathlib.Core.Path.{_≡_, sym, _∙_}
+use mathlib.Core.Bool.{Bool, not, cond, _&&_, _||_}
+use mathlib.Core.Logic.{⊎-elim, _≢_}
+use mathlib.Core.List.{List}
+use Prim.Native.Nat.{ℕ, _+_, _≤_, _<_}
+use native.Mathlib.Omega.{arith}
+use lib.ListN.{length, getD, replicate}
+use lib.Seq.{getD-set-other}
+use lib.Dec.{eqb, leb, ltb}
+use borrow.Author.Tests.{eqb-true, eqb-false, eq-eqb, ne-eqb}
+use Rattle.laws.specs.Below.{anyBelow, any-same, countBelow, bit, either}
+use Rattle.laws.specs.Links.{countedAt, counted-at, counted-long}
+use Rattle.stored.specs.declared.Record.{Record}
+use Rattle.stored.specs.Layout.{limits}
+use Rattle.check_refusals.specs.Tables.{Tables, baseRecords, allRecords, pieceAt, uncut}
+use Rattle.check_refusals.specs.Bounded.{Room}
+use Rattle.check_refusals.specs.Refusals.{isChildOf, notChildOfOne, tooDeep, badCut, badRecord}
+use Rattle.check_children.specs.Counts.{Counting, countsBelow, counts-is}
+
+-- One more at both children of record r, if it is cut.
+unfoldable pub childrenCounted : List ℕ → Record → List ℕ
+childrenCounted times r =
+    let both = countedAt (countedAt times (r .«first_child»)) (r .«first_child» + 1) in
+    cond (uncut r) times both
+
+-- At another entry the table says what it said.
+counted-other : (t : List ℕ) (x c : ℕ) → c ≢ x → getD (countedAt t x) c 0 ≡ getD t c 0
+unfolding countedAt
+counted-other t x c apart =
+    ⊎-elim
+    (λ y. rw y (getD-set-other t x c (getD t x 0 + 1) 0 apart))
+    (λ f. rw f)
+    (either (ltb x (length t) && ltb (getD t x 0) 65535))
+
+-- A number is at most one of two that follow each other.
+one-of-two : (a x : ℕ) → bit (eqb x a) + bit (eqb x (a + 1)) ≡ bit (eqb a x || eqb (a + 1) x)
+one-of-two a x =
+    ⊎-elim
+    (λ t. let e = eqb-true a x t in rw (t, eq-eqb x a (sym e), ne-eqb x (a + 1) (λ q. omega arith)))
+    (λ f.
+    let no = eqb-false a x f in
+    ⊎-elim
+    (λ t. let e = eqb-true (a + 1) x t in rw (f, t, ne-eqb x a (λ q. no (sym q)), eq-eqb x (a + 1) (sym e)))
+    (λ g. let nor = eqb-false (a + 1) x g in rw (f, g, ne-eqb x a (λ q. no (sym q)), ne-eqb x (a + 1) (λ q. nor (sym q))))
+    (either (eqb (a + 1) x)))
+    (either (eqb a x))
+
+children-long : (t : List ℕ) (r : Record) → length (childrenCounted t r) ≡ length t
+unfolding childrenCounted
+children-long t r =
+    ⊎-elim
+    (λ u. rw u)
+    (λ f. rw f (counted-long _ _ ∙ counted-long _ _))
+    (either (uncut r))
+
+-- A cut record counts one more at each of its children.
+children-more : (t : List ℕ) (r : Record) (x : ℕ) → x < length t → ((y : ℕ) → getD t y 0 < 65535) → getD (childrenCounted t r) x 0 ≡ getD t x 0 + bit (isChildOf r x)
+unfolding childrenCounted isChildOf
+children-more t r x l small =
+    let a = r .«first_child» in
+    let b = r .«first_child» + 1 in
+    ⊎-elim
+    (λ u. rw u (omega arith))
+    (λ f.
+    let one = counted-at t a x l (small a) in
+    let still : getD (countedAt t a) b 0 < 65535 = rw (counted-other t a b (λ q. omega arith)) (small b) in
+    let other = counted-at (countedAt t a) b x (rw (counted-long t a) l) still in
+    rw f (omega (arith, one-of-two a x)))
+    (either (uncut r))
+
+pub children-counting : (at : ℕ → Record) → Counting (λ t n. childrenCounted t (at n)) (λ n c. isChildOf (at n) c)
+children-counting at = record { long = λ t k. children-long t (at k); more = λ t k x l s. children-more t (at k) x l s }
+
+-- The table of all records.
+abbrev pub timesIn : Tables → List ℕ
+timesIn m = countsBelow (λ t n. childrenCounted t (m .recordAt n)) (replicate (limits .records) 0) (allRecords m)
+
+-- What it says of record c.
+times-is : (m : Tables) (c : ℕ) → allRecords m ≤ limits .records → c < allRecords m → getD (timesIn m) c 0 ≡ countBelow (allRecords m) (λ n. isChildOf (m .recordAt n) c)
+times-is m c room l =
+    counts-is (λ t n. childrenCounted t (m .recordAt n)) (λ n k. isChildOf (m .recordAt n) k) (children-counting (m .recordAt)) (limits .records) (allRecords m) c (omega arith) (omega arith)
+
+-- By the table: a record beyond the base whose count is not 1, and a record that is refused.
+unfoldable pub notChildOfOneBy : ℕ → List ℕ → ℕ → Bool
+notChildOfOneBy base times c = leb base c && not (eqb (getD times c 0) 1)
+
+unfoldable pub badRecordBy : Tables → List ℕ → ℕ → Bool
+badRecordBy m times n = badCut m n || notChildOfOneBy (baseRecords m) times n || tooDeep (pieceAt m n)
+
+bad-record-is : (m : Tables) (n : ℕ) → allRecords m ≤ limits .records → n < allRecords m → badRecordBy m (timesIn m) n ≡ badRecord m n
+unfolding badRecordBy notChildOfOneBy badRecord notChildOfOne
+bad-record-is m n room l = rw (times-is m n room l)
+
+-- The table refuses what the rule refuses.
+pub any-bad-record-is : (m : Tables) (times : List ℕ) → Room (m .header) → times ≡ timesIn m → anyBelow (allRecords m) (badRecordBy m times) ≡ anyBelow (allRecords m) (badRecord m)
+any-bad-record-is m times room is =
+    any-same (allRecords m) (badRecordBy m times) (badRecord m) (λ n l. rw is (bad-record-is m n (room .records) l))

@@ -1,0 +1,4 @@
+pub mod Counts
+pub mod Children
+pub mod Linked
+pub mod Midpoints

@@ -1,0 +1,149 @@
+-- The faces of the records so far, linked by their keys: what is found along the links is what a search through all faces would find.
+use mathlib.Core.Path.{_≡_, ap, _∙_}
+use mathlib.Core.Bool.{Bool, true, _||_}
+use mathlib.Core.List.{List}
+use Prim.Native.Nat.{ℕ, suc, _+_, _*_, _/_, _%_, _<_}
+use native.Mathlib.Omega.{arith}
+use lib.Dec.{ltb}
+use lib.ListN.{length, getD, replicate, length-replicate}
+use Rattle.laws.specs.Below.{anyBelow, any-none, any-suc, any-same, and-left, and-right}
+use Rattle.laws.specs.Links.{Links, linksOf, Chain, pushed, pushed-heads-long, pushed-nexts-long, anyAlong, zeros-at, chain-start, chain-pushed, chain-any}
+use Rattle.piece.specs.declared.Piece.{Piece}
+use Rattle.stored.specs.declared.Record.{Record}
+use Rattle.stored.specs.Layout.{limits}
+use Rattle.check_refusals.specs.Refusals.{badFaces}
+use Rattle.check_shared.specs.declared.Face.{Face}
+use Rattle.check_shared.specs.Faces.{faceOf}
+use Rattle.check_shared.specs.Keys.{faceHeads, keyOf, key-within, same-key}
+use Rattle.check_faces.specs.declared.Keys.{Keys}
+use Rattle.check_faces.specs.Faces.{isFace, isBefore, badFace, by-faces}
+
+-- Room for every face of the records.
+abbrev pub faces : ℕ
+faces = 4 * limits .records
+
+-- The keys of the faces of a piece with these corners.
+abbrev pub keysOf : List ℕ → Keys
+keysOf p = record { first = keyOf (faceOf p 0); second = keyOf (faceOf p 1); third = keyOf (faceOf p 2); fourth = keyOf (faceOf p 3) }
+
+-- A record before r has this face, as far as the links from m on lead.
+unfoldable pub beforeAlong : (ℕ → Record) → List ℕ → ℕ → Face → ℕ → Bool
+beforeAlong recordAt nexts m face r = anyAlong nexts (isBefore recordAt face r) m
+
+-- Face i of q is bad with a face along them.
+unfoldable pub badAlong : (ℕ → Record) → List ℕ → ℕ → Piece → ℕ → Bool
+badAlong recordAt nexts m q i = let face = faceOf (q .corners) i in anyAlong nexts (badFace recordAt (beforeAlong recordAt nexts m face) q i face) m
+
+-- One of q's faces, which have these keys, is.
+unfoldable pub badLinked : (ℕ → Record) → List ℕ → List ℕ → Piece → Keys → Bool
+badLinked recordAt heads nexts q keys =
+    badAlong recordAt nexts (getD heads (keys .first) 0) q 0
+    || badAlong recordAt nexts (getD heads (keys .second) 0) q 1
+    || badAlong recordAt nexts (getD heads (keys .third) 0) q 2
+    || badAlong recordAt nexts (getD heads (keys .fourth) 0) q 3
+
+-- The faces of record n, which have these keys, are put before the others.
+unfoldable pub pushedFaces : Links → Keys → ℕ → Links
+pushedFaces links keys n =
+    pushed (pushed (pushed (pushed links (keys .first) (4 * n)) (keys .second) (4 * n + 1)) (keys .third) (4 * n + 2)) (keys .fourth) (4 * n + 3)
+
+-- One push after the other.
+pub four-pushed : (keys : Keys) (n : ℕ) (links a b c d : Links) → a ≡ pushed links (keys .first) (4 * n) → b ≡ pushed a (keys .second) (4 * n + 1) →
+    c ≡ pushed b (keys .third) (4 * n + 2) → d ≡ pushed c (keys .fourth) (4 * n + 3) → d ≡ pushedFaces links keys n
+unfolding pushedFaces
+four-pushed keys n links a b c d one two three four = rw (four, three, two, one)
+
+-- The key of face f.
+unfoldable pub keyAt : (ℕ → Record) → ℕ → ℕ
+keyAt recordAt f = keyOf (faceOf (recordAt (f / 4) .piece .corners) (f % 4))
+
+-- The links are those of the first c faces.
+pub record Linked (recordAt : ℕ → Record) (c : ℕ) (links : Links) : Type 0 where
+  pub chain : Chain (keyAt recordAt) c (links .heads) (links .nexts)
+  pub heads-long : length (links .heads) ≡ faceHeads
+  pub nexts-long : length (links .nexts) ≡ faces
+
+module _ (recordAt : ℕ → Record) where
+  -- ---- no face yet
+
+  pub none-linked : Linked recordAt 0 (linksOf (replicate faceHeads 0) (replicate faces 0))
+  none-linked =
+      record {
+        chain = chain-start (keyAt recordAt) (replicate faceHeads 0) (replicate faces 0) (zeros-at faceHeads);
+        heads-long = length-replicate {A = ℕ} faceHeads 0;
+        nexts-long = length-replicate {A = ℕ} faces 0;
+      }
+
+  -- ---- one record more
+
+  face-pushed : (links : Links) (c next k : ℕ) → Linked recordAt c links → c < faces → next ≡ suc c → k ≡ keyAt recordAt c → Linked recordAt next (pushed links k c)
+  face-pushed links c next k on low is key =
+      let room : c < length (links .nexts) = rw (on .nexts-long) low in
+      rw (is, key)
+      (record {
+        chain = chain-pushed (keyAt recordAt) c links (on .chain) room (omega arith);
+        heads-long = pushed-heads-long links (keyAt recordAt c) c ∙ on .heads-long;
+        nexts-long = pushed-nexts-long links (keyAt recordAt c) c ∙ on .nexts-long;
+      })
+
+  module _ (links : Links) (n : ℕ) (on : Linked recordAt (4 * n) links) (low : n < limits .records) where
+    -- The key of face j.
+    abbrev Key : ℕ → ℕ
+    Key j = keyOf (faceOf (recordAt n .piece .corners) j)
+
+    key-is : (j : ℕ) → j < 4 → Key j ≡ keyAt recordAt (4 * n + j)
+    unfolding keyAt
+    key-is j l =
+        let record-is : (4 * n + j) / 4 ≡ n = omega arith in
+        let face-is : (4 * n + j) % 4 ≡ j = omega arith in
+        rw (record-is, face-is)
+
+    pub record-pushed : Linked recordAt (4 * (n + 1)) (pushedFaces links (keysOf (recordAt n .piece .corners)) n)
+    unfolding pushedFaces
+    record-pushed =
+        let none : 4 * n + 0 ≡ 4 * n = omega arith in
+        let a = face-pushed links (4 * n) (4 * n + 1) (Key 0) on (omega arith) (omega arith) (rw none at (key-is 0 (omega arith))) in
+        let b = face-pushed _ (4 * n + 1) (4 * n + 2) (Key 1) a (omega arith) (omega arith) (key-is 1 (omega arith)) in
+        let c = face-pushed _ (4 * n + 2) (4 * n + 3) (Key 2) b (omega arith) (omega arith) (key-is 2 (omega arith)) in
+        face-pushed _ (4 * n + 3) (4 * (n + 1)) (Key 3) c (omega arith) (omega arith) (key-is 3 (omega arith))
+
+  -- ---- what is found along the links
+
+  module _ (c : ℕ) (links : Links) (on : Linked recordAt c links) (q : Piece) (i : ℕ) where
+    abbrev Sought : Face
+    Sought = faceOf (q .corners) i
+
+    -- Where the links of its key begin.
+    abbrev Head : ℕ
+    Head = getD (links .heads) (keyOf Sought) 0
+
+    -- Faces that are the same have one key.
+    only : (P : ℕ → Bool) → ((f : ℕ) → P f ≡ true → isFace recordAt Sought f ≡ true) → anyAlong (links .nexts) P Head ≡ anyBelow c P
+    unfolding isFace keyAt
+    only P h =
+        chain-any (keyAt recordAt) c (links .heads) (links .nexts) (on .chain) P (keyOf Sought) (rw (on .heads-long) (key-within Sought))
+        (λ f l t. same-key (faceOf (recordAt (f / 4) .piece .corners) (f % 4)) Sought (h f t))
+
+    before-is : (r : ℕ) → beforeAlong recordAt (links .nexts) Head Sought r ≡ anyBelow c (isBefore recordAt Sought r)
+    unfolding beforeAlong isBefore
+    before-is r = only (isBefore recordAt Sought r) (λ f t. and-right (ltb (f / 4) r) (isFace recordAt Sought f) t)
+
+    bad-is : badAlong recordAt (links .nexts) Head q i ≡ anyBelow c (badFace recordAt (λ r. anyBelow c (isBefore recordAt Sought r)) q i Sought)
+    unfolding badAlong badFace
+    bad-is =
+        ap (λ (before : ℕ → Bool). anyAlong (links .nexts) (badFace recordAt before q i Sought) Head) (λ x r. before-is r x)
+        ∙ only (badFace recordAt (λ r. anyBelow c (isBefore recordAt Sought r)) q i Sought) (λ f t. and-left (isFace recordAt Sought f) _ t)
+
+  -- Four tests.
+  any-four : (P : ℕ → Bool) → (P 0 || P 1 || P 2 || P 3) ≡ anyBelow 4 P
+  any-four P = rw (any-suc P 3, any-suc P 2, any-suc P 1, any-suc P 0, any-none P)
+
+  -- Rule 7 for record n.
+  pub linked-is : (n : ℕ) (links : Links) → Linked recordAt (4 * n) links →
+      badLinked recordAt (links .heads) (links .nexts) (recordAt n .piece) (keysOf (recordAt n .piece .corners)) ≡ badFaces recordAt n
+  unfolding badLinked badFaces
+  linked-is n links on =
+      let q : Piece = recordAt n .piece in
+      let Along : ℕ → Bool = λ i. badAlong recordAt (links .nexts) (getD (links .heads) (keyOf (faceOf (q .corners) i)) 0) q i in
+      let Below : ℕ → Bool = λ i. anyBelow (4 * n) (badFace recordAt (λ r. anyBelow (4 * n) (isBefore recordAt (faceOf (q .corners) i) r)) q i (faceOf (q .corners) i)) in
+      any-four Along ∙ any-same 4 Along Below (λ i l. bad-is (4 * n) links on q i) ∙ by-faces recordAt q n
