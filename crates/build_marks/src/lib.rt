@@ -5,12 +5,10 @@ use piece::Piece;
 use stored::Record;
 use stored::Vertex;
 ghost use mathlib.Core.Path.{_≡_};
-ghost use mathlib.Core.Bool.{not, _&&_};
 ghost use lib.ListN.{getD};
 ghost use lib.IntN.{pos};
-ghost use Rattle.grid_lengths.specs.Lengths.{ranksBefore};
-ghost use Rattle.build_marks.specs.Marking.{placeFor, plainPlace, plainVertex, plainPiece, rankOf, outranked, firstRanked, markedPiece, plainRecord};
-ghost use Rattle.build_marks.specs.Among.{amongOf};
+ghost use Rattle.build_marks.specs.Marking.{placeFor, plainPlace, plainVertex, plainPiece, markedPiece, plainRecord};
+ghost use Rattle.build_marks.specs.Choosing.{edgeFor, firstOf, markedBy};
 
 // A coordinate's place: an i32 holds the sum.
 fn place_for(x: i16) -> u16
@@ -81,83 +79,75 @@ fn plain_piece(corners: &[u16], n: u32) -> Piece
     }
 }
 
-fn rank(coordinates: &[i16], p: Piece, e: u8) -> Ranked
-    ensures { λ r. ⌜ r ≡ rankOf (now (coordinates .entry)) p e ⌝ }
+// An edge: its code, and how it is ranked.
+struct Edge {
+    code: u8,
+    rank: Ranked,
+}
+
+// The edge between vertices u and v, which stand at a and b.
+fn edge_between(code: u8, u: u32, v: u32, a: Place, b: Place) -> Edge
+    ensures { λ r. ⌜ r ≡ edgeFor code u v a b ⌝ }
 {
-    let ends = piece::ends_of(p, e);
-    let a = plain_place(coordinates, ends.lower);
-    let b = plain_place(coordinates, ends.higher);
-    Ranked {
-        length: grid_lengths::squared_length(a, b),
-        lower: ends.lower,
-        higher: ends.higher,
+    let length = grid_lengths::squared_length(a, b);
+    if u < v {
+        let rank = Ranked {
+            length: length,
+            lower: u,
+            higher: v,
+        };
+        return Edge {
+            code: code,
+            rank: rank,
+        };
+    }
+    let rank = Ranked {
+        length: length,
+        lower: v,
+        higher: u,
+    };
+    Edge {
+        code: code,
+        rank: rank,
     }
 }
 
-// Whether edge e is ranked: i is a face, or 4 for the whole piece.
-fn among(i: u8, e: u8) -> bool
-    ensures { λ r. ⌜ r ≡ amongOf i e ⌝ }
+// Of two edges the one that ranks first, and the former where neither ranks before the other.
+fn first_of(a: Edge, b: Edge) -> Edge
+    ensures { λ r. ⌜ r ≡ firstOf a b ⌝ }
 {
-    if i == 4 {
-        return true;
+    let former = a.rank;
+    let latter = b.rank;
+    if grid_lengths::ranks_before(latter, former) {
+        return b;
     }
-    piece_edges::on_face(e, i)
+    a
 }
 
-fn outranks(coordinates: &[i16], p: Piece, i: u8, e: u8, f: u8) -> bool
-    ensures { λ r. ⌜ r ≡ (amongOf i f && ranksBefore (rankOf (now (coordinates .entry)) p f) (rankOf (now (coordinates .entry)) p e)) ⌝ }
+fn first_of_face(a: Edge, b: Edge, c: Edge) -> u8
+    ensures { λ r. ⌜ r ≡ firstOf (firstOf a b) c .code ⌝ }
 {
-    if !among(i, f) {
-        return false;
-    }
-    grid_lengths::ranks_before(rank(coordinates, p, f), rank(coordinates, p, e))
+    let first = first_of(first_of(a, b), c);
+    first.code
 }
 
-fn is_outranked(coordinates: &[i16], p: Piece, i: u8, e: u8) -> bool
-    ensures { λ r. ⌜ r ≡ outranked (now (coordinates .entry)) p (amongOf i) e ⌝ }
+fn first_of_piece(a: Edge, b: Edge, c: Edge, d: Edge, e: Edge, f: Edge) -> u8
+    ensures { λ r. ⌜ r ≡ firstOf (firstOf (firstOf (firstOf (firstOf a b) c) d) e) f .code ⌝ }
 {
-    let mut f: u8 = 0;
-    while f < 6 {
-        if outranks(coordinates, p, i, e, f) {
-            return true;
-        }
-        f += 1;
-    }
-    false
+    let first = first_of(first_of(first_of(first_of(first_of(a, b), c), d), e), f);
+    first.code
 }
 
-fn ranks_first(coordinates: &[i16], p: Piece, i: u8, e: u8) -> bool
-    ensures { λ r. ⌜ r ≡ (amongOf i e && not (outranked (now (coordinates .entry)) p (amongOf i) e)) ⌝ }
+// The piece with these corners and edges: a face has the three edges without its slot.
+fn marked_by(corners: [u32; 4], a: Edge, b: Edge, c: Edge, d: Edge, e: Edge, f: Edge) -> Piece
+    ensures { λ r. ⌜ r ≡ markedBy corners a b c d e f ⌝ }
 {
-    if !among(i, e) {
-        return false;
-    }
-    !is_outranked(coordinates, p, i, e)
-}
-
-fn first_ranked(coordinates: &[i16], p: Piece, i: u8) -> u8
-    ensures { λ r. ⌜ r ≡ firstRanked (now (coordinates .entry)) p (amongOf i) ⌝ }
-{
-    let mut e: u8 = 0;
-    while e < 6 {
-        if ranks_first(coordinates, p, i, e) {
-            return e;
-        }
-        e += 1;
-    }
-    6
-}
-
-fn marked_piece(coordinates: &[i16], p: Piece) -> Piece
-    ensures { λ r. ⌜ r ≡ markedPiece (now (coordinates .entry)) p ⌝ }
-{
-    let corners = p.corners;
-    let edge = first_ranked(coordinates, p, 4);
+    let edge = first_of_piece(a, b, c, d, e, f);
     let marks = [
-        first_ranked(coordinates, p, 0),
-        first_ranked(coordinates, p, 1),
-        first_ranked(coordinates, p, 2),
-        first_ranked(coordinates, p, 3),
+        first_of_face(d, e, f),
+        first_of_face(b, c, f),
+        first_of_face(a, c, e),
+        first_of_face(a, b, d),
     ];
     Piece {
         corners: corners,
@@ -166,6 +156,30 @@ fn marked_piece(coordinates: &[i16], p: Piece) -> Piece
         flag: 0,
         generation: 0,
     }
+}
+
+// Each corner's place is read once, and each edge's length taken once.
+fn marked_piece(coordinates: &[i16], p: Piece) -> Piece
+    ensures { λ r. ⌜ r ≡ markedPiece (now (coordinates .entry)) p ⌝ }
+{
+    let corners = p.corners;
+    let s = corners[0];
+    let t = corners[1];
+    let u = corners[2];
+    let v = corners[3];
+    let a = plain_place(coordinates, s);
+    let b = plain_place(coordinates, t);
+    let c = plain_place(coordinates, u);
+    let d = plain_place(coordinates, v);
+    marked_by(
+        corners,
+        edge_between(0, s, t, a, b),
+        edge_between(1, s, u, a, c),
+        edge_between(2, s, v, a, d),
+        edge_between(3, t, u, b, c),
+        edge_between(4, t, v, b, d),
+        edge_between(5, u, v, c, d),
+    )
 }
 
 pub fn plain_record(coordinates: &[i16], corners: &[u16], n: u32) -> Record

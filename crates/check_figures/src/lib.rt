@@ -32,9 +32,7 @@ fn leaf_generation<'a>(l: Layout, base: &'a [u8], grown: &'a [u8], n: usize) -> 
     ensures { λ r. ⌜ r ≡ leafGeneration (recordIn l (now (base .entry)) (now (grown .entry)) n) ⌝ }
 {
     if check_refusals::is_leaf(l, base, grown, n) {
-        let record = stored_entries::record_in(l, base, grown, n);
-        let p = record.piece;
-        return p.generation as u64;
+        return stored_entries::generation_in(l, base, grown, n) as u64;
     }
     0
 }
@@ -62,9 +60,8 @@ fn leaf_sixfold<'a>(l: Layout, base: &'a [u8], grown: &'a [u8], n: usize) -> u64
     ensures { λ r. ⌜ r ≡ leafSixfold (vertexIn l (now (base .entry)) (now (grown .entry))) (recordIn l (now (base .entry)) (now (grown .entry)) n) ⌝ }
 {
     if check_refusals::is_leaf(l, base, grown, n) {
-        let record = stored_entries::record_in(l, base, grown, n);
-        let p = record.piece;
-        return check_refusals::sixfold_of(l, base, grown, p);
+        let corners = stored_entries::corners_in(l, base, grown, n);
+        return check_refusals::sixfold_between(l, base, grown, corners);
     }
     0
 }

@@ -1,45 +1,46 @@
 // Refusal 5: base records that are no pieces.
-use piece::Piece;
 use stored::Header;
 use stored::Layout;
 ghost use mathlib.Core.Path.{_≡_};
+ghost use lib.ListN.{getD};
 ghost use lib.Dec.{eqb, leb};
-ghost use Rattle.piece.specs.Ends.{cornerAt};
+ghost use Rattle.laws.specs.Below.{anyBelow};
 ghost use Rattle.piece_edges.specs.Edges.{lowSlot, highSlot};
 ghost use Rattle.check_refusals.specs.Tables.{tables};
-ghost use Rattle.check_refusals.specs.Refusals.{equalCorners, cornerNotInBase, badPiece, badBaseRecord, badBaseRecords};
+ghost use Rattle.check_refusals.specs.Refusals.{badBaseRecord, badBaseRecords};
 
-fn equal_at(p: Piece, e: u8) -> bool
-    ensures { λ r. ⌜ r ≡ eqb (cornerAt p (lowSlot e)) (cornerAt p (highSlot e)) ⌝ }
+// The ends of the six edges, one edge after the other.
+fn equal_corners(corners: [u32; 4]) -> bool
+    ensures { λ r. ⌜ r ≡ anyBelow 6 (λ e. eqb (getD corners (lowSlot e) 0) (getD corners (highSlot e) 0)) ⌝ }
 {
-    piece::corner(p, piece_edges::low_slot(e)) == piece::corner(p, piece_edges::high_slot(e))
-}
-
-fn equal_corners(p: Piece) -> bool
-    ensures { λ r. ⌜ r ≡ equalCorners p ⌝ }
-{
-    let mut e: u8 = 0;
-    while e < 6 {
-        if equal_at(p, e) {
-            return true;
-        }
-        e += 1;
+    let a = corners[0];
+    let b = corners[1];
+    let c = corners[2];
+    let d = corners[3];
+    if a == b {
+        return true;
     }
-    false
+    if a == c {
+        return true;
+    }
+    if a == d {
+        return true;
+    }
+    if b == c {
+        return true;
+    }
+    if b == d {
+        return true;
+    }
+    c == d
 }
 
-fn not_in_base(h: Header, p: Piece, k: u8) -> bool
-    ensures { λ r. ⌜ r ≡ leb (h .«base_vertices») (cornerAt p k) ⌝ }
+fn corner_not_in_base(count: u32, corners: [u32; 4]) -> bool
+    ensures { λ r. ⌜ r ≡ anyBelow 4 (λ k. leb count (getD corners k 0)) ⌝ }
 {
-    h.base_vertices <= piece::corner(p, k)
-}
-
-fn corner_not_in_base(h: Header, p: Piece) -> bool
-    ensures { λ r. ⌜ r ≡ cornerNotInBase (h .«base_vertices») p ⌝ }
-{
-    let mut k: u8 = 0;
+    let mut k: usize = 0;
     while k < 4 {
-        if not_in_base(h, p, k) {
+        if count <= corners[k] {
             return true;
         }
         k += 1;
@@ -47,30 +48,23 @@ fn corner_not_in_base(h: Header, p: Piece) -> bool
     false
 }
 
-fn bad_piece<'a>(h: Header, l: Layout, base: &'a [u8], grown: &'a [u8], p: Piece) -> bool
-    ensures { λ r. ⌜ r ≡ badPiece (tables h l (now (base .entry)) (now (grown .entry))) p ⌝ }
-{
-    if equal_corners(p) {
-        return true;
-    }
-    if corner_not_in_base(h, p) {
-        return true;
-    }
-    if check_refusals::sixfold_of(l, base, grown, p) == 0 {
-        return true;
-    }
-    if p.generation != 0 {
-        return true;
-    }
-    p.flag != 0
-}
-
 fn bad_base_record<'a>(h: Header, l: Layout, base: &'a [u8], grown: &'a [u8], n: usize) -> bool
     ensures { λ r. ⌜ r ≡ badBaseRecord (tables h l (now (base .entry)) (now (grown .entry))) n ⌝ }
 {
-    let record = stored_entries::record_in(l, base, grown, n);
-    let p = record.piece;
-    bad_piece(h, l, base, grown, p)
+    let corners = stored_entries::corners_in(l, base, grown, n);
+    if equal_corners(corners) {
+        return true;
+    }
+    if corner_not_in_base(h.base_vertices, corners) {
+        return true;
+    }
+    if check_refusals::sixfold_between(l, base, grown, corners) == 0 {
+        return true;
+    }
+    if stored_entries::generation_in(l, base, grown, n) != 0 {
+        return true;
+    }
+    stored_entries::flag_in(l, base, grown, n) != 0
 }
 
 // Refusal 5.

@@ -1,14 +1,16 @@
 // What several of check's rules ask of a decoded mesh: leaves, refinement edges, corners, volumes.
 //
 // A mesh is handed on as a layout and two slices, with its header only where a count is read.
-use grid::Place;
 use piece::Ends;
 use piece::Piece;
 use stored::Header;
 use stored::Layout;
 ghost use mathlib.Core.Path.{_≡_};
+ghost use lib.ListN.{getD};
 ghost use lib.Dec.{eqb};
 ghost use Rattle.piece.specs.Ends.{cornerAt};
+ghost use Rattle.grid.specs.Places.{pointOf};
+ghost use Rattle.grid_volume.specs.Volume.{sixfoldOf};
 ghost use Rattle.stored.specs.Layout.{vertexIn, recordIn};
 ghost use Rattle.check_refusals.specs.Bounded.{beyond};
 ghost use Rattle.check_refusals.specs.Refusals.{hasCorner};
@@ -52,27 +54,38 @@ pub fn is_leaf<'a>(l: Layout, base: &'a [u8], grown: &'a [u8], n: usize) -> bool
 pub fn refinement_ends<'a>(l: Layout, base: &'a [u8], grown: &'a [u8], n: usize) -> Ends
     ensures { λ r. ⌜ r ≡ refinementEnds (recordIn l (now (base .entry)) (now (grown .entry)) n .piece) ⌝ }
 {
-    let record = stored_entries::record_in(l, base, grown, n);
-    let p = record.piece;
-    piece::ends_of(p, p.edge)
+    let e = stored_entries::edge_in(l, base, grown, n);
+    let low = stored_entries::corner_in(l, base, grown, n, piece_edges::low_slot(e));
+    let high = stored_entries::corner_in(l, base, grown, n, piece_edges::high_slot(e));
+    if low < high {
+        return Ends {
+            lower: low,
+            higher: high,
+        };
+    }
+    Ends {
+        lower: high,
+        higher: low,
+    }
 }
 
-fn place_of<'a>(l: Layout, base: &'a [u8], grown: &'a [u8], p: Piece, k: u8) -> Place
-    ensures { λ r. ⌜ r ≡ vertexIn l (now (base .entry)) (now (grown .entry)) (cornerAt p k) .place ⌝ }
+// The sixfold volume of a piece with these corners.
+pub fn sixfold_between<'a>(l: Layout, base: &'a [u8], grown: &'a [u8], corners: [u32; 4]) -> u64
+    ensures { λ r. ⌜ r ≡ sixfoldOf (λ k. pointOf (vertexIn l (now (base .entry)) (now (grown .entry)) (getD corners k 0) .place)) ⌝ }
 {
-    let v = stored_entries::vertex_in(l, base, grown, piece::corner(p, k) as usize);
-    v.place
+    let a = stored_entries::place_in(l, base, grown, corners[0] as usize);
+    let b = stored_entries::place_in(l, base, grown, corners[1] as usize);
+    let c = stored_entries::place_in(l, base, grown, corners[2] as usize);
+    let d = stored_entries::place_in(l, base, grown, corners[3] as usize);
+    grid_volume::sixfold(a, b, c, d)
 }
 
 // The sixfold volume of a piece.
 pub fn sixfold_of<'a>(l: Layout, base: &'a [u8], grown: &'a [u8], p: Piece) -> u64
     ensures { λ r. ⌜ r ≡ sixfoldAt (vertexIn l (now (base .entry)) (now (grown .entry))) p ⌝ }
 {
-    let a = place_of(l, base, grown, p, 0);
-    let b = place_of(l, base, grown, p, 1);
-    let c = place_of(l, base, grown, p, 2);
-    let d = place_of(l, base, grown, p, 3);
-    grid_volume::sixfold(a, b, c, d)
+    let corners = p.corners;
+    sixfold_between(l, base, grown, corners)
 }
 
 fn corner_is(p: Piece, v: u32, k: u8) -> bool

@@ -46,3 +46,10 @@ squared-length-is p q =
     ap natAbs (ap (λ (z : ℤ). z +ℤ square b +ℤ square c) (square-is a)
     ∙ ap (λ (z : ℤ). pos (natAbs (square a)) +ℤ z +ℤ square c) (square-is b)
     ∙ ap (λ (z : ℤ). pos (natAbs (square a)) +ℤ pos (natAbs (square b)) +ℤ z) (square-is c))
+
+-- and the same from either end
+pub squared-length-swap : (p q : Point) → squaredLength p q ≡ squaredLength q p
+squared-length-swap p q =
+    squared-length-is p q
+    ∙ (λ i. square-swap (p .x) (q .x) i + square-swap (p .y) (q .y) i + square-swap (p .z) (q .z) i)
+    ∙ sym (squared-length-is q p)

@@ -1,6 +1,6 @@
 -- The ranking is a strict order, and a total one among edges with different ends.
 -- Assumes nothing.
-use mathlib.Core.Path.{_≡_, refl, sym}
+use mathlib.Core.Path.{_≡_, refl, sym, _∙_}
 use mathlib.Core.Logic.{_⊎_, inl, inr}
 use mathlib.Core.Bool.{Bool, true, false, _&&_, _||_, false≢true}
 use Prim.Native.Nat.{ℕ, _<_}
@@ -70,6 +70,30 @@ transitive a b c e f = of-before a c (chain (before-of a b e) (before-of b c f))
 pub asymmetric : (a b : Ranked) → ranksBefore a b ≡ true → ranksBefore b a ≡ true → ⊥
 asymmetric a b e f = irreflexive a (transitive a b a e f)
 
+compared : {X : Type 0} (m n : ℕ) → (m < n → X) → (m ≡ n → X) → (n < m → X) → X
+compared m n f g h =
+    elim (decLt m n) [ yes l ↦ f l | no k ↦ elim (decLt n m) [ yes l ↦ h l | no l ↦ g (omega arith) ] ]
+
+-- An edge that ranks before another ranks before every edge that does not.
+pub before-others : (a b c : Ranked) → ranksBefore a b ≡ true → ranksBefore c b ≡ false → ranksBefore a c ≡ true
+before-others a b c e f = of-before a c (go (before-of a b e))
+  where
+    no : Before c b → ⊥
+    no k = false≢true (sym f ∙ of-before c b k)
+
+    go : Before a b → Before a c
+    go (longer h) = compared (b .length) (c .length) (λ l. absurd (no (longer l))) (λ l. longer (omega arith)) (λ l. longer (omega arith))
+    go (lowerFirst p h) =
+        compared (b .length) (c .length) (λ l. absurd (no (longer l)))
+        (λ l. compared (c .lower) (b .lower) (λ m. absurd (no (lowerFirst (sym l) m))) (λ m. lowerFirst (omega arith) (omega arith)) (λ m. lowerFirst (omega arith) (omega arith)))
+        (λ l. longer (omega arith))
+    go (higherFirst p q h) =
+        compared (b .length) (c .length) (λ l. absurd (no (longer l)))
+        (λ l. compared (c .lower) (b .lower) (λ m. absurd (no (lowerFirst (sym l) m)))
+        (λ m. compared (c .higher) (b .higher) (λ n. absurd (no (higherFirst (sym l) m n))) (λ n. higherFirst (omega arith) (omega arith) (omega arith)) (λ n. higherFirst (omega arith) (omega arith) (omega arith)))
+        (λ m. lowerFirst (omega arith) (omega arith)))
+        (λ l. longer (omega arith))
+
 -- Of two edges with different ends one ranks before the other.
 pub total : (a b : Ranked) → ((a .lower ≡ b .lower) × (a .higher ≡ b .higher) → ⊥) → (ranksBefore a b ≡ true) ⊎ (ranksBefore b a ≡ true)
 total a b different =
@@ -80,7 +104,3 @@ total a b different =
     (λ h. inr (of-before b a (higherFirst e (sym f) h))))
     (λ h. inr (of-before b a (lowerFirst e h))))
     (λ h. inr (of-before b a (longer h)))
-  where
-    compared : {X : Type 0} (m n : ℕ) → (m < n → X) → (m ≡ n → X) → (n < m → X) → X
-    compared m n f g h =
-        elim (decLt m n) [ yes l ↦ f l | no k ↦ elim (decLt n m) [ yes l ↦ h l | no l ↦ g (omega arith) ] ]

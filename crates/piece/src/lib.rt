@@ -40,16 +40,28 @@ pub fn mark_fits(edge: u8, m: u8, i: u8) -> bool
 pub fn mark_of(p: Piece, i: u8) -> u8
     ensures { λ r. ⌜ r ≡ mark (shapeOf p) i ⌝ }
 {
-    let at = i as usize;
-    if at < 4 { p.marks[at] } else { 0 }
+    let marks = p.marks;
+    match i {
+        0 => marks[0],
+        1 => marks[1],
+        2 => marks[2],
+        3 => marks[3],
+        _ => 0,
+    }
 }
 
 // The vertex number in slot k.
 pub fn corner(p: Piece, k: u8) -> u32
     ensures { λ r. ⌜ r ≡ cornerAt p k ⌝ }
 {
-    let at = k as usize;
-    if at < 4 { p.corners[at] } else { 0 }
+    let corners = p.corners;
+    match k {
+        0 => corners[0],
+        1 => corners[1],
+        2 => corners[2],
+        3 => corners[3],
+        _ => 0,
+    }
 }
 
 // Of edge e, the slot of the end of lower vertex number.
@@ -80,8 +92,16 @@ pub fn higher_end(p: Piece, e: u8) -> u8
 pub fn ends_of(p: Piece, e: u8) -> Ends
     ensures { λ r. ⌜ r ≡ endsOf p e ⌝ }
 {
+    let low = corner(p, piece_edges::low_slot(e));
+    let high = corner(p, piece_edges::high_slot(e));
+    if low < high {
+        return Ends {
+            lower: low,
+            higher: high,
+        };
+    }
     Ends {
-        lower: corner(p, lower_end(p, e)),
-        higher: corner(p, higher_end(p, e)),
+        lower: high,
+        higher: low,
     }
 }

@@ -7,7 +7,7 @@
 // - the two cut faces are the others: each is half of a face of the parent.
 use piece::Piece;
 ghost use mathlib.Core.Path.{_≡_};
-ghost use Rattle.piece.specs.Shape.{shapeOf};
+ghost use Rattle.piece.specs.Shape.{shapeOf, setP};
 ghost use Rattle.piece_cut.specs.Cut.{childCorners, inheritedMark, refinementEdge, cutMark, newMark, childFlag, childMark, childOf, cutOf};
 
 // The two children, "first" and "second" as document 01 orders them.
@@ -54,10 +54,11 @@ fn cut_mark(k: u8, i: u8) -> u8
 // Step 4. "The new face is marked the same way for both children. If the parent is type P_f, the marked edge is the edge connecting the new
 // vertex to the new refinement edge. Otherwise it is the edge opposite the new vertex." The children's refinement edges are the marks of
 // the parent's faces acd and bcd, and in type P these two share a corner that is on the new face.
-fn new_mark(p: Piece, k: u8) -> u8
+fn new_mark(p: Piece, set: bool, k: u8) -> u8
+    requires { ⌜ set ≡ setP (shapeOf p) ⌝ }
     ensures { λ r. ⌜ r ≡ newMark (shapeOf p) k ⌝ }
 {
-    if piece_types::is_set_p(p) {
+    if set {
         let acd = piece::mark_of(p, piece_edges::high_slot(p.edge));
         let bcd = piece::mark_of(p, piece_edges::low_slot(p.edge));
         return piece_edges::edge_between(k, piece_edges::shared_slot(acd, bcd));
@@ -75,32 +76,35 @@ fn child_flag(p: Piece) -> u8
     0
 }
 
-// "Mark the faces of the children as follows": which step marks face i.
-fn child_mark(p: Piece, k: u8, i: u8) -> u8
+// "Mark the faces of the children as follows": which step marks face i. The new face's mark is given.
+fn child_mark(p: Piece, k: u8, new: u8, i: u8) -> u8
+    requires { ⌜ new ≡ newMark (shapeOf p) k ⌝ }
     ensures { λ r. ⌜ r ≡ childMark (shapeOf p) k i ⌝ }
 {
     if i == k {
         return inherited_mark(p, k);
     }
     if i == piece_edges::other_end(p.edge, k) {
-        return new_mark(p, k);
+        return new;
     }
     cut_mark(k, i)
 }
 
-// One child, with the new vertex w in slot k: the steps put together. Its generation is the parent's and one more.
-fn child(p: Piece, w: u32, k: u8) -> Piece
+// One child, with the new vertex w in slot k: the steps put together. Its generation is the parent's and one more. What both children have of
+// the parent is given: whether it is of type P_f, and their flag.
+fn child(p: Piece, set: bool, flag: u8, w: u32, k: u8) -> Piece
+    requires { ⌜ (set ≡ setP (shapeOf p)) × (flag ≡ childFlag (shapeOf p)) ⌝ }
     ensures { λ r. ⌜ r ≡ childOf p w k ⌝ }
 {
     let corners = child_corners(p, w, k);
     let edge = refinement_edge(p, k);
+    let new = new_mark(p, set, k);
     let marks = [
-        child_mark(p, k, 0),
-        child_mark(p, k, 1),
-        child_mark(p, k, 2),
-        child_mark(p, k, 3),
+        child_mark(p, k, new, 0),
+        child_mark(p, k, new, 1),
+        child_mark(p, k, new, 2),
+        child_mark(p, k, new, 3),
     ];
-    let flag = child_flag(p);
     let generation = ((p.generation as u32 + 1) % 256) as u8;
     Piece {
         corners: corners,
@@ -117,8 +121,10 @@ pub fn cut(p: Piece, w: u32) -> Children
 {
     let u = piece::lower_end(p, p.edge);
     let v = piece::higher_end(p, p.edge);
+    let set = piece_types::is_set_p(p);
+    let flag = child_flag(p);
     Children {
-        first: child(p, w, v),
-        second: child(p, w, u),
+        first: child(p, set, flag, w, v),
+        second: child(p, set, flag, w, u),
     }
 }

@@ -1,28 +1,52 @@
 // Two pieces compared: corners in their slots, edge, marks, flag and generation.
 use piece::Piece;
 ghost use mathlib.Core.Path.{_≡_};
-ghost use Rattle.piece.specs.Same.{sameSlot, sameSlots, samePiece};
+ghost use lib.ListN.{getD};
+ghost use lib.Dec.{eqb};
+ghost use Rattle.laws.specs.Below.{allBelow};
+ghost use Rattle.piece.specs.Same.{sameSlots, samePiece};
 
-fn same_slot(p: Piece, q: Piece, k: u8) -> bool
-    ensures { λ r. ⌜ r ≡ sameSlot p q k ⌝ }
+fn same_corners(p: [u32; 4], q: [u32; 4]) -> bool
+    ensures { λ r. ⌜ r ≡ allBelow 4 (λ k. eqb (getD p k 0) (getD q k 0)) ⌝ }
 {
-    if piece::corner(p, k) != piece::corner(q, k) {
+    if p[0] != q[0] {
         return false;
     }
-    piece::mark_of(p, k) == piece::mark_of(q, k)
+    if p[1] != q[1] {
+        return false;
+    }
+    if p[2] != q[2] {
+        return false;
+    }
+    p[3] == q[3]
+}
+
+fn same_marks(p: [u8; 4], q: [u8; 4]) -> bool
+    ensures { λ r. ⌜ r ≡ allBelow 4 (λ k. eqb (getD p k 0) (getD q k 0)) ⌝ }
+{
+    if p[0] != q[0] {
+        return false;
+    }
+    if p[1] != q[1] {
+        return false;
+    }
+    if p[2] != q[2] {
+        return false;
+    }
+    p[3] == q[3]
 }
 
 fn same_slots(p: Piece, q: Piece) -> bool
     ensures { λ r. ⌜ r ≡ sameSlots p q ⌝ }
 {
-    let mut k: u8 = 0;
-    while k < 4 {
-        if !same_slot(p, q, k) {
-            return false;
-        }
-        k += 1;
+    let corners = p.corners;
+    let others = q.corners;
+    if !same_corners(corners, others) {
+        return false;
     }
-    true
+    let marks = p.marks;
+    let others = q.marks;
+    same_marks(marks, others)
 }
 
 pub fn same_piece(p: Piece, q: Piece) -> bool

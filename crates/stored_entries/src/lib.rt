@@ -52,7 +52,8 @@ fn held<'a>(width: u32, t: Table, base: &'a [u8], grown: &'a [u8], i: usize) -> 
     if i < t.count as usize {
         return entry_from(base, t.base, width as usize, i);
     }
-    entry_from(grown, t.grown, width as usize, i - t.count as usize)
+    let j = i - t.count as usize;
+    entry_from(grown, t.grown, width as usize, j)
 }
 
 fn vertex_held<'a>(l: Layout, base: &'a [u8], grown: &'a [u8], i: usize) -> &'a [u8]

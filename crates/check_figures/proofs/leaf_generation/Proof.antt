@@ -1,15 +1,14 @@
 -- `check_figures::leaf_generation`: each way out is one case of the definition, at what the calls return.
 -- Assumes nothing.
 use borrow.Author.Needs.{needs}
-use mathlib.Core.Path.{sym, _∙_, ap}
-use Rattle.stored.specs.declared.Record.{Record}
+use mathlib.Core.Path.{sym, _∙_}
 use Rattle.check_refusals.specs.Check.{leafGeneration}
 use Rattle.check_figures.proofs.leaf_generation.Statement.{statement}
 use Rattle.check_figures.proofs.leaf_generation.Tie as tie
 
 returns : tie.Need-returns
 unfolding leafGeneration
-returns c = rw (sym (c .before .before .before .before .is-leaf .ensures) ∙ c .before .before .before .if1 .taken) (ap (λ (r : Record). r .piece .generation) (c .before .before .record-in .ensures))
+returns c = rw (sym (c .before .before .is-leaf .ensures) ∙ c .before .if1 .taken) (c .generation-in .ensures)
 
 returns-2 : tie.Need-returns-2
 unfolding leafGeneration

@@ -1,37 +1,47 @@
--- `check_pieces::equal_corners` has found no edge before e with equal ends.
+-- `check_pieces::equal_corners`: each way out is the edge at which the ends are equal, or the last.
 -- Assumes nothing.
 use borrow.Author.Needs.{needs}
-use Prim.Native.Nat.{_≤_, _-_}
-use mathlib.Core.Path.{_≡_, sym, _∙_}
-use mathlib.Core.Bool.{false}
-use native.Mathlib.Omega.{arith}
-use lib.Dec.{eqb}
-use Rattle.laws.specs.Below.{anyBelow, any-none, any-next, any-is, any-end}
+use borrow.Author.Tests.{eq-eqb, ne-eqb}
+use Rattle.laws.specs.Below.{anyBelow, foldBelow}
 use Rattle.piece_edges.specs.Edges.{lowSlot, highSlot}
-use Rattle.piece.specs.Ends.{cornerAt}
-use Rattle.check_refusals.specs.Refusals.{equalCorners}
 use Rattle.check_pieces.proofs.equal_corners.Statement.{statement}
 use Rattle.check_pieces.proofs.equal_corners.Tie as tie
 
-abbrev Inv-loop : tie.InvT-loop
-Inv-loop p e₀ e = (e ≤ 6) × (anyBelow e (λ e. eqb (cornerAt p (lowSlot e)) (cornerAt p (highSlot e))) ≡ false)
+returns : tie.Need-returns
+unfolding anyBelow foldBelow lowSlot highSlot
+returns c = rw (eq-eqb _ _ (c .if1 .taken))
 
-abbrev μ-loop : tie.MeasureT-loop
-μ-loop p e₀ e = 6 - e
+returns-2 : tie.Need-returns-2
+unfolding anyBelow foldBelow lowSlot highSlot
+returns-2 c = rw (ne-eqb _ _ (c .before .if1 .left), eq-eqb _ _ (c .if2 .taken))
 
-loop-holds : tie.Need-loop-holds Inv-loop μ-loop
-loop-holds c = (omega arith, any-none (λ e. eqb (cornerAt (c .args .p) (lowSlot e)) (cornerAt (c .args .p) (highSlot e))))
+returns-3 : tie.Need-returns-3
+unfolding anyBelow foldBelow lowSlot highSlot
+returns-3 c = rw (ne-eqb _ _ (c .before .before .if1 .left), ne-eqb _ _ (c .before .if2 .left), eq-eqb _ _ (c .if3 .taken))
 
-returns : tie.Need-returns Inv-loop μ-loop
-unfolding equalCorners
-returns c = sym (any-is (λ e. eqb (cornerAt (c .before .before .before .before .args .p) (lowSlot e)) (cornerAt (c .before .before .before .before .args .p) (highSlot e))) 6 (c .before .before .before .loop .e) (c .before .before .loop-test .taken) (sym (c .before .equal-at .ensures) ∙ c .if1 .taken))
+returns-4 : tie.Need-returns-4
+unfolding anyBelow foldBelow lowSlot highSlot
+returns-4 c = rw (ne-eqb _ _ (c .before .before .before .if1 .left), ne-eqb _ _ (c .before .before .if2 .left), ne-eqb _ _ (c .before .if3 .left), eq-eqb _ _ (c .if4 .taken))
 
-loop-again : tie.Need-loop-again Inv-loop μ-loop
-loop-again c = (omega arith, any-next (λ e. eqb (cornerAt (c .before .before .before .before .args .p) (lowSlot e)) (cornerAt (c .before .before .before .before .args .p) (highSlot e))) (c .before .before .before .loop .e) (c .before .before .before .loop .inv .1) (sym (c .before .equal-at .ensures) ∙ c .if1 .left))
+returns-5 : tie.Need-returns-5
+unfolding anyBelow foldBelow lowSlot highSlot
+returns-5 c = rw (ne-eqb _ _ (c .before .before .before .before .if1 .left), ne-eqb _ _ (c .before .before .before .if2 .left), ne-eqb _ _ (c .before .before .if3 .left), ne-eqb _ _ (c .before .if4 .left), eq-eqb _ _ (c .if5 .taken))
 
-returns-2 : tie.Need-returns-2 Inv-loop μ-loop
-unfolding equalCorners
-returns-2 c = sym (any-end (λ e. eqb (cornerAt (c .before .before .args .p) (lowSlot e)) (cornerAt (c .before .before .args .p) (highSlot e))) 6 (c .before .loop .e) (c .loop-test .left) (c .before .loop .inv .0) (c .before .loop .inv .1))
+returns-6 : tie.Need-returns-6
+unfolding anyBelow foldBelow lowSlot highSlot
+returns-6 c = rw (ne-eqb _ _ (c .before .before .before .before .if1 .left), ne-eqb _ _ (c .before .before .before .if2 .left), ne-eqb _ _ (c .before .before .if3 .left), ne-eqb _ _ (c .before .if4 .left), ne-eqb _ _ (c .if5 .left))
 
 pub equal-corners-spec : {M : Type 1} → statement M
-equal-corners-spec = tie.close (tie.spec Inv-loop μ-loop loop-holds (λ c κs. search needs) returns (λ c. search needs) (λ c. search needs) loop-again returns-2)
+equal-corners-spec =
+    tie.close
+    (tie.spec
+    (λ c. search needs)
+    (λ c. search needs)
+    (λ c. search needs)
+    (λ c. search needs)
+    returns
+    returns-2
+    returns-3
+    returns-4
+    returns-5
+    returns-6)

@@ -1,4 +1,4 @@
--- `piece::corner`: an array of four has nothing past its end.
+-- `piece::corner`: each arm is one of the four, and an array of four has nothing past its end.
 -- Assumes nothing.
 use borrow.Author.Needs.{needs}
 use mathlib.Core.Path.{_≡_, sym}
@@ -7,10 +7,22 @@ use lib.ListN.{length, List·getD-eq-default}
 use Rattle.piece.proofs.corner.Statement.{statement}
 use Rattle.piece.proofs.corner.Tie as tie
 
-returns-2 : tie.Need-returns-2
-returns-2 c =
-    let four : length (c .before .args .t1 .corners) ≡ 4 = search needs in
-    sym (List·getD-eq-default (c .before .args .t1 .corners) 0 (omega (arith, c .if1 .left)))
+returns-5 : tie.Need-returns-5
+returns-5 c =
+    let a = c .before .before .args in
+    let four : length (a .p .corners) ≡ 4 = search needs in
+    sym (List·getD-eq-default (a .p .corners) 0 (omega (arith, c .match .rest)))
 
 pub corner-spec : {M : Type 1} → statement M
-corner-spec = tie.close (tie.spec (λ c. search needs) (λ c. search needs) (λ c. search needs) returns-2)
+corner-spec =
+    tie.close
+    (tie.spec
+    (λ c. search needs)
+    (λ c. search needs)
+    (λ c. search needs)
+    (λ c. search needs)
+    (λ c. rw (c .match .keys1))
+    (λ c. rw (c .match .keys2))
+    (λ c. rw (c .match .keys3))
+    (λ c. rw (c .match .keys4))
+    returns-5)

@@ -7,7 +7,7 @@ use Rattle.piece_cut.proofs.cut.Tie as tie
 
 returns : tie.Need-returns
 unfolding cutOf
-returns c = rw (← c .before .before .before .lower-end .ensures, ← c .before .before .higher-end .ensures, ← c .before .child .ensures, ← c .child2 .ensures)
+returns c = rw (← c .before .before .before .before .before .lower-end .ensures, ← c .before .before .before .before .higher-end .ensures, ← c .before .child .ensures, ← c .child2 .ensures)
 
 pub cut-spec : {M : Type 1} → statement M
-cut-spec = tie.close (tie.spec (λ c κs. search needs) (λ c κs. search needs) (λ c κs. search needs) (λ c κs. search needs) returns)
+cut-spec = tie.close (tie.spec (λ c κs. search needs) (λ c κs. search needs) (λ c κs. search needs) (λ c κs. search needs) (λ c κs. search needs) (λ c κs. search needs) returns)

@@ -1,44 +1,44 @@
--- `piece_same::same_slots` has found every slot before k the same.
+-- `piece_same::same_slots`: the slots are the same where the corners are and the marks are.
 -- Assumes nothing.
 use borrow.Author.Needs.{needs}
-use Prim.Native.Nat.{_≤_, _-_}
-use mathlib.Core.Path.{_≡_, sym, _∙_}
-use mathlib.Core.Bool.{true}
-use native.Mathlib.Omega.{arith}
 use borrow.Author.Tests.{not-true, not-false}
-use Rattle.laws.specs.Below.{allBelow, all-none, all-next, all-fails, all-end}
+use mathlib.Core.Path.{_≡_, refl}
+use mathlib.Core.Bool.{Bool, true, false, _&&_}
+use Prim.Native.Nat.{ℕ, zero, suc}
+use lib.Dec.{eqb}
+use Rattle.laws.specs.Below.{allBelow, all-none, all-suc}
+use Rattle.piece.specs.declared.Piece.{Piece}
+use Rattle.piece.specs.Shape.{shapeOf, mark}
+use Rattle.piece.specs.Ends.{cornerAt}
 use Rattle.piece.specs.Same.{sameSlot, sameSlots}
 use Rattle.piece_same.proofs.same_slots.Statement.{statement}
 use Rattle.piece_same.proofs.same_slots.Tie as tie
 
-abbrev Inv-loop : tie.InvT-loop
-Inv-loop p q k₀ k = (k ≤ 4) × (allBelow k (sameSlot p q) ≡ true)
+-- Both of every number, and the one of every number and the other of every number.
+all-both : (P Q : ℕ → Bool) (n : ℕ) → allBelow n (λ k. P k && Q k) ≡ (allBelow n P && allBelow n Q)
+all-both P Q zero = rw (all-none (λ k. P k && Q k), all-none P, all-none Q)
+all-both P Q (suc n) = rw (all-suc (λ k. P k && Q k) n, all-suc P n, all-suc Q n, all-both P Q n) (go (allBelow n P) (allBelow n Q) (P n) (Q n))
+  where
+    go : (a b c d : Bool) → ((a && b) && (c && d)) ≡ ((a && c) && (b && d))
+    go false b c d = refl
+    go true false false d = refl
+    go true false true d = refl
+    go true true c d = refl
 
-abbrev μ-loop : tie.MeasureT-loop
-μ-loop p q k₀ k = 4 - k
+parts : (p q : Piece) → sameSlots p q ≡ (allBelow 4 (λ k. eqb (cornerAt p k) (cornerAt q k)) && allBelow 4 (λ k. eqb (mark (shapeOf p) k) (mark (shapeOf q) k)))
+unfolding sameSlots sameSlot
+parts p q = all-both (λ k. eqb (cornerAt p k) (cornerAt q k)) (λ k. eqb (mark (shapeOf p) k) (mark (shapeOf q) k)) 4
 
-loop-holds : tie.Need-loop-holds Inv-loop μ-loop
-loop-holds c = (omega arith, all-none (sameSlot (c .args .p) (c .args .q)))
+returns : tie.Need-returns
+returns c =
+    let a = c .before .before .before .before .args in
+    rw (parts (a .p) (a .q), ← c .before .same-corners .ensures, not-true (c .before .same-corners .result) (c .if1 .taken))
 
-same-slot-requires : tie.Need-same-slot-requires Inv-loop μ-loop
-same-slot-requires c κs = search needs
-
-returns : tie.Need-returns Inv-loop μ-loop
-unfolding sameSlots
-returns c = sym (all-fails (sameSlot (c .before .before .before .before .args .p) (c .before .before .before .before .args .q)) 4 (c .before .before .before .loop .k) (c .before .before .loop-test .taken) (sym (c .before .same-slot .ensures) ∙ not-true _ (c .if1 .taken)))
-
-add-k : tie.Need-add-k Inv-loop μ-loop
-add-k c = omega arith
-
-loop-less : tie.Need-loop-less Inv-loop μ-loop
-loop-less c = omega arith
-
-loop-again : tie.Need-loop-again Inv-loop μ-loop
-loop-again c = (omega arith, all-next (sameSlot (c .before .before .before .before .args .p) (c .before .before .before .before .args .q)) (c .before .before .before .loop .k) (c .before .before .before .loop .inv .1) (sym (c .before .same-slot .ensures) ∙ not-false _ (c .if1 .left)))
-
-returns-2 : tie.Need-returns-2 Inv-loop μ-loop
-unfolding sameSlots
-returns-2 c = sym (all-end (sameSlot (c .before .before .args .p) (c .before .before .args .q)) 4 (c .before .loop .k) (c .loop-test .left) (c .before .loop .inv .0) (c .before .loop .inv .1))
+returns-2 : tie.Need-returns-2
+returns-2 c =
+    let test = c .before .before .before in
+    let a = test .before .before .before .before .args in
+    rw (parts (a .p) (a .q), ← test .before .same-corners .ensures, not-false (test .before .same-corners .result) (test .if1 .left)) (c .same-marks .ensures)
 
 pub same-slots-spec : {M : Type 1} → statement M
-same-slots-spec = tie.close (tie.spec Inv-loop μ-loop loop-holds same-slot-requires returns add-k loop-less loop-again returns-2)
+same-slots-spec = tie.close (tie.spec (λ c κs. search needs) returns (λ c κs. search needs) returns-2)
