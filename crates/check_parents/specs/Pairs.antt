@@ -4,22 +4,22 @@ use mathlib.Core.Bool.{Bool, true, cond, _&&_}
 use mathlib.Core.List.{List}
 use Prim.Native.Nat.{ℕ, suc, _+_, _*_, _%_, _≤_, _<_}
 use native.Mathlib.Nat.{mod-lt}
-use lib.ListN.{length, getD}
+use lib.ListN.{length, getD, replicate, length-replicate}
 use lib.Dec.{lit<, eqb, leb, ltb}
 use borrow.Author.Tests.{eqb-true, leb-true, lt-ltb, le-ltb}
 use Rattle.laws.specs.Below.{anyBelow, any-same, firstBelow, and-left, and-right}
-use Rattle.laws.specs.Links.{Chain, Links, pushed, linkedBelow, linked-none, linked-suc, linked-heads-long, linked-nexts-long, chain-same, chain-linked, chain-any, chain-first, any-gap, anyAlong, firstAlong}
+use Rattle.laws.specs.Links.{Chain, Links, linksOf, zeros-at, pushed, linkedBelow, linked-none, linked-suc, linked-heads-long, linked-nexts-long, chain-same, chain-linked, chain-any, chain-first, any-gap, anyAlong, firstAlong}
 use Rattle.piece.specs.declared.Ends.{Ends}
 use Rattle.stored.specs.declared.Vertex.{Vertex}
 use Rattle.check_refusals.specs.Tables.{Tables, baseVertices, allVertices, hasParents, vertexWith}
 
 -- How many keys there are.
 abbrev pub pairHeads : ℕ
-pairHeads = 1024
+pairHeads = 4096
 
 -- The key of a pair of vertices.
 unfoldable pub pairKey : Ends → ℕ
-pairKey ends = (ends .lower * 31 + ends .higher) % 1024
+pairKey ends = (ends .lower * 31 + ends .higher) % pairHeads
 
 -- The parents of a vertex, as the ends of an edge.
 abbrev pub parentEnds : Vertex → Ends
@@ -104,7 +104,26 @@ module _ (m : Tables) (n : ℕ) (heads nexts : List ℕ) (c : Chain (keyOf m) n 
   pub first-with-is : firstAlong nexts (hasParents m ends) (getD heads (pairKey ends) 0) n ≡ firstBelow n (hasParents m ends)
   first-with-is = chain-first (keyOf m) n heads nexts c (hasParents m ends) (pairKey ends) within (λ u l t. has-key m ends u t)
 
--- Of all vertices: the vertex with these parents.
+-- ---- the links of all vertices
+
+pub record Linked (m : Tables) (heads nexts : List ℕ) : Type 0 where
+  pub chain : Chain (keyOf m) (allVertices m) heads nexts
+  pub long : length heads ≡ pairHeads
+
+-- Links of no vertex, with room for so many.
+abbrev pub empty : ℕ → Links
+empty room = linksOf (replicate pairHeads 0) (replicate room 0)
+
+-- Filled with all vertices.
+pub all-linked : (m : Tables) (room : ℕ) → allVertices m ≤ room → allVertices m ≤ 65535 → (heads nexts : List ℕ) → heads ≡ pairLinks m (empty room) (allVertices m) .heads → nexts ≡ pairLinks m (empty room) (allVertices m) .nexts → Linked m heads nexts
+all-linked m room fits small heads nexts h n =
+    rw (h, n)
+    (record {
+      chain = pairs-chain m (empty room) (allVertices m) (zeros-at pairHeads) (rw (length-replicate {A = ℕ} room 0) fits) small;
+      long = pairs-heads-long m (empty room) (allVertices m) ∙ length-replicate {A = ℕ} pairHeads 0;
+    })
+
+-- The vertex with these parents.
 pub vertex-with-is : (m : Tables) (heads nexts : List ℕ) → Chain (keyOf m) (allVertices m) heads nexts → length heads ≡ pairHeads → (ends : Ends) → firstAlong nexts (hasParents m ends) (getD heads (pairKey ends) 0) (allVertices m) ≡ vertexWith m ends
 unfolding vertexWith
 vertex-with-is m heads nexts c long ends = first-with-is m (allVertices m) heads nexts c long ends

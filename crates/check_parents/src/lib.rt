@@ -8,11 +8,11 @@ ghost use mathlib.Core.Bool.{cond, _&&_};
 ghost use lib.Dec.{ltb};
 ghost use lib.ListN.{getD};
 ghost use Rattle.laws.specs.Links.{linksOf, pushed, anyAlong, firstAlong};
-ghost use Rattle.check_refusals.specs.Tables.{tables, hasParents, vertexWith};
+ghost use Rattle.check_refusals.specs.Tables.{tables, hasParents};
 ghost use Rattle.check_parents.specs.Pairs.{pairKey, keyOf, pairLinks};
 
 // How many keys the links have.
-pub const PAIR_HEADS: usize = 1024;
+pub const PAIR_HEADS: usize = 4096;
 
 // Whether vertex v is made and has these parents.
 pub fn has_parents<'a>(
@@ -33,21 +33,6 @@ pub fn has_parents<'a>(
         return false;
     }
     parents.q == ends.higher
-}
-
-// The vertex with these parents; the count of vertices where there is none.
-pub fn vertex_with<'a>(h: Header, l: Layout, base: &'a [u8], grown: &'a [u8], ends: Ends) -> usize
-    ensures { λ r. ⌜ r ≡ vertexWith (tables h l (now (base .entry)) (now (grown .entry))) ends ⌝ }
-{
-    let count = h.vertices as usize;
-    let mut v: usize = 0;
-    while v < count {
-        if has_parents(h, l, base, grown, ends, v) {
-            return v;
-        }
-        v += 1;
-    }
-    count
 }
 
 // The key of a pair.
@@ -126,20 +111,20 @@ fn has_parents_below<'a>(
     has_parents(h, l, base, grown, ends, u)
 }
 
-// Whether a vertex below count along the links has these parents.
-pub fn any_with<'a>(
+// Whether a vertex below count has these parents, along the links from one on.
+pub fn any_from<'a>(
     h: Header,
     l: Layout,
     base: &'a [u8],
     grown: &'a [u8],
-    heads: &'a [u16],
     nexts: &'a [u16],
     count: usize,
     ends: Ends,
+    from: usize,
 ) -> bool
-    ensures { λ r. ⌜ r ≡ anyAlong (now (nexts .entry)) (λ u. ltb u count && hasParents (tables h l (now (base .entry)) (now (grown .entry))) ends u) (getD (now (heads .entry)) (pairKey ends) 0) ⌝ }
+    ensures { λ r. ⌜ r ≡ anyAlong (now (nexts .entry)) (λ u. ltb u count && hasParents (tables h l (now (base .entry)) (now (grown .entry))) ends u) from ⌝ }
 {
-    let mut to = chains::at(heads, pair_key(ends));
+    let mut to = from;
     while 0 < to {
         let u = to - 1;
         if has_parents_below(h, l, base, grown, count, ends, u) {
@@ -148,6 +133,13 @@ pub fn any_with<'a>(
         to = chains::link(nexts, u);
     }
     false
+}
+
+// Where the links of a pair's key begin.
+pub fn head_of(heads: &[u16], ends: Ends) -> usize
+    ensures { λ r. ⌜ r ≡ getD (now (heads .entry)) (pairKey ends) 0 ⌝ }
+{
+    chains::at(heads, pair_key(ends))
 }
 
 // Vertex u if it has these parents, and else what was found before.
@@ -181,7 +173,7 @@ pub fn first_with<'a>(
     ensures { λ r. ⌜ r ≡ firstAlong (now (nexts .entry)) (hasParents (tables h l (now (base .entry)) (now (grown .entry))) ends) (getD (now (heads .entry)) (pairKey ends) 0) (h .vertices) ⌝ }
 {
     let mut found = h.vertices as usize;
-    let mut to = chains::at(heads, pair_key(ends));
+    let mut to = head_of(heads, ends);
     while 0 < to {
         let u = to - 1;
         found = found_at(h, l, base, grown, ends, u, found);

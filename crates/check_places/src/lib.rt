@@ -108,7 +108,8 @@ fn pair_twice<'a>(
         lower: parents.p,
         higher: parents.q,
     };
-    check_parents::any_with(h, l, base, grown, heads, nexts, v, ends)
+    let head = check_parents::head_of(heads, ends);
+    check_parents::any_from(h, l, base, grown, nexts, v, ends, head)
 }
 
 // Vertex v, where those before it are linked.

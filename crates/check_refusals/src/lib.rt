@@ -57,16 +57,7 @@ pub fn refinement_ends<'a>(l: Layout, base: &'a [u8], grown: &'a [u8], n: usize)
     let e = stored_entries::edge_in(l, base, grown, n);
     let low = stored_entries::corner_in(l, base, grown, n, piece_edges::low_slot(e));
     let high = stored_entries::corner_in(l, base, grown, n, piece_edges::high_slot(e));
-    if low < high {
-        return Ends {
-            lower: low,
-            higher: high,
-        };
-    }
-    Ends {
-        lower: high,
-        higher: low,
-    }
+    piece::ends_between(low, high)
 }
 
 // The sixfold volume of a piece with these corners.

@@ -1,11 +1,13 @@
 -- Document 01, "Cutting": a piece's corners, and the ends of its edges in the order of their vertex numbers.
 use mathlib.Core.Path.{_≡_}
 use mathlib.Core.Bool.{cond}
+use mathlib.Core.Logic.{⊎-elim}
+use mathlib.Core.List.{List}
 use Prim.Native.Nat.{ℕ, _≤_, _<_}
-use native.Mathlib.Omega.{arith}
 use lib.ListN.{getD}
 use lib.Dec.{ltb}
 use borrow.Author.Tests.{lt-ltb, le-ltb}
+use Rattle.laws.specs.Below.{either}
 use Rattle.piece_edges.specs.Edges.{lowSlot, highSlot}
 use Rattle.piece.specs.declared.Piece.{Piece}
 use Rattle.piece.specs.declared.Ends.{Ends}
@@ -27,13 +29,23 @@ higherEnd p e = cond (ltb (cornerAt p (lowSlot e)) (cornerAt p (highSlot e))) (h
 unfoldable pub endsOf : Piece → ℕ → Ends
 endsOf p e = record { lower = cornerAt p (lowerEnd p e); higher = cornerAt p (higherEnd p e) }
 
--- They are the corners in the edge's two slots, whichever is lower.
-pub ends-rising : (p : Piece) (e : ℕ) {u v : ℕ} → u ≡ cornerAt p (lowSlot e) → v ≡ cornerAt p (highSlot e) → u < v → _≡_ {A = Ends} (record { lower = u; higher = v }) (endsOf p e)
-unfolding endsOf lowerEnd higherEnd
-ends-rising p e low high l =
-    rw (lt-ltb (cornerAt p (lowSlot e)) (cornerAt p (highSlot e)) (omega arith)) (λ i. record { lower = low i; higher = high i })
+-- Two vertex numbers, the lower first.
+unfoldable pub between : ℕ → ℕ → Ends
+between u v = cond (ltb u v) (record { lower = u; higher = v }) (record { lower = v; higher = u })
 
-pub ends-falling : (p : Piece) (e : ℕ) {u v : ℕ} → u ≡ cornerAt p (lowSlot e) → v ≡ cornerAt p (highSlot e) → v ≤ u → _≡_ {A = Ends} (record { lower = v; higher = u }) (endsOf p e)
-unfolding endsOf lowerEnd higherEnd
-ends-falling p e low high l =
-    rw (le-ltb (cornerAt p (lowSlot e)) (cornerAt p (highSlot e)) (omega arith)) (λ i. record { lower = high i; higher = low i })
+pub between-rising : (u v : ℕ) → u < v → _≡_ {A = Ends} (record { lower = u; higher = v }) (between u v)
+unfolding between
+between-rising u v l = rw (lt-ltb u v l)
+
+pub between-falling : (u v : ℕ) → v ≤ u → _≡_ {A = Ends} (record { lower = v; higher = u }) (between u v)
+unfolding between
+between-falling u v l = rw (le-ltb u v l)
+
+-- Of a piece with these corners, the two vertex numbers of an edge: the corners in its two slots.
+unfoldable pub endsAt : List ℕ → ℕ → Ends
+endsAt corners e = between (getD corners (lowSlot e) 0) (getD corners (highSlot e) 0)
+
+pub ends-at : (p : Piece) (e : ℕ) → endsAt (p .corners) e ≡ endsOf p e
+unfolding endsAt endsOf lowerEnd higherEnd between
+ends-at p e =
+    ⊎-elim (λ t. rw t) (λ f. rw f) (either (ltb (cornerAt p (lowSlot e)) (cornerAt p (highSlot e))))

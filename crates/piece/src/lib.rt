@@ -1,7 +1,8 @@
 // The marked piece of document 01 by value: its corners, marks and the ends of its edges.
 ghost use mathlib.Core.Path.{_≡_};
 ghost use Rattle.piece.specs.Shape.{shapeOf, mark, markFits};
-ghost use Rattle.piece.specs.Ends.{cornerAt, lowerEnd, higherEnd, endsOf};
+ghost use lib.ListN.{getD};
+ghost use Rattle.piece.specs.Ends.{cornerAt, lowerEnd, higherEnd, between, endsAt, endsOf};
 
 // "Generations go up to 15."
 pub const LAST_GENERATION: u8 = 15;
@@ -88,20 +89,43 @@ pub fn higher_end(p: Piece, e: u8) -> u8
     low
 }
 
+// Two vertex numbers as the ends of an edge, the lower first.
+pub fn ends_between(u: u32, v: u32) -> Ends
+    ensures { λ r. ⌜ r ≡ between u v ⌝ }
+{
+    if u < v {
+        return Ends {
+            lower: u,
+            higher: v,
+        };
+    }
+    Ends {
+        lower: v,
+        higher: u,
+    }
+}
+
+// Of four corners, the vertex number in slot k.
+pub fn corner_at(corners: [u32; 4], k: u8) -> u32
+    ensures { λ r. ⌜ r ≡ getD corners k 0 ⌝ }
+{
+    let at = k as usize;
+    if at < 4 { corners[at] } else { 0 }
+}
+
+// Of a piece with these corners, the ends of edge e.
+pub fn ends_at(corners: [u32; 4], e: u8) -> Ends
+    ensures { λ r. ⌜ r ≡ endsAt corners e ⌝ }
+{
+    let low = corner_at(corners, piece_edges::low_slot(e));
+    let high = corner_at(corners, piece_edges::high_slot(e));
+    ends_between(low, high)
+}
+
 // The lower and the higher vertex number of edge e.
 pub fn ends_of(p: Piece, e: u8) -> Ends
     ensures { λ r. ⌜ r ≡ endsOf p e ⌝ }
 {
-    let low = corner(p, piece_edges::low_slot(e));
-    let high = corner(p, piece_edges::high_slot(e));
-    if low < high {
-        return Ends {
-            lower: low,
-            higher: high,
-        };
-    }
-    Ends {
-        lower: high,
-        higher: low,
-    }
+    let corners = p.corners;
+    ends_at(corners, e)
 }

@@ -1,14 +1,13 @@
--- `check_hanging::leaf_hangs` asks of a leaf's piece whether an edge hangs.
+-- `check_hanging::leaf_hangs` asks of a leaf's corners whether an edge hangs, where an edge's key has links at all.
 -- Assumes nothing.
 use borrow.Author.Needs.{needs}
 use mathlib.Core.Path.{sym, _∙_, ap}
+use mathlib.Core.Bool.{false}
 use denote.Ref.{now}
 use borrow.Author.Tests.{not-true, not-false}
-use Rattle.laws.specs.Below.{anyBelow}
-use Rattle.piece.specs.Ends.{endsOf}
-use Rattle.stored.specs.declared.Record.{Record}
-use Rattle.check_refusals.specs.Tables.{tables}
-use Rattle.check_hanging.specs.Hanging.{hangsAlong, leafHangsAlong}
+use Rattle.laws.specs.Below.{and-false}
+use Rattle.check_refusals.specs.Tables.{tables, isLeaf, pieceAt}
+use Rattle.check_hanging.specs.Hanging.{anyLinked, cornersHang, leafHangsAlong, not-linked}
 use Rattle.check_hanging.proofs.leaf_hangs.Statement.{statement}
 use Rattle.check_hanging.proofs.leaf_hangs.Tie as tie
 
@@ -21,8 +20,17 @@ unfolding leafHangsAlong
 returns-2 c =
     let a = c .before .before .before .before .before .before .before .before .before .args in
     let m = tables (a .h) (a .l) (now (a .base)) (now (a .grown)) in
-    let leaf = sym (c .before .before .before .before .is-leaf .ensures) ∙ not-false (c .before .before .before .before .is-leaf .result) (c .before .before .before .if1 .left) in
-    rw leaf (c .piece-hangs .ensures ∙ ap (λ (r : Record). anyBelow 6 (λ e. hangsAlong m (now (a .heads)) (now (a .nexts)) (endsOf (r .piece) e))) (c .before .before .record-in .ensures))
+    let none = sym (c .before .any-linked .ensures) ∙ not-true (c .before .any-linked .result) (c .if2 .taken) in
+    let rest = ap (anyLinked (now (a .heads))) (sym (c .before .before .corners-in .ensures)) ∙ none in
+    rw (not-linked m (now (a .heads)) (now (a .nexts)) (pieceAt m (a .n) .corners) rest) (sym (and-false (isLeaf m (a .n))))
+
+returns-3 : tie.Need-returns-3
+unfolding leafHangsAlong
+returns-3 c =
+    let a = c .before .before .before .before .before .before .before .before .before .before .args in
+    let m = tables (a .h) (a .l) (now (a .base)) (now (a .grown)) in
+    let leaf = sym (c .before .before .before .before .before .is-leaf .ensures) ∙ not-false (c .before .before .before .before .before .is-leaf .result) (c .before .before .before .before .if1 .left) in
+    rw leaf (c .corners-hang .ensures ∙ ap (cornersHang m (now (a .heads)) (now (a .nexts))) (c .before .before .before .corners-in .ensures))
 
 pub leaf-hangs-spec : {M : Type 1} → statement M
-leaf-hangs-spec = tie.close (tie.spec (λ c κs. search needs) returns (λ c κs. search needs) (λ c κs. search needs) returns-2)
+leaf-hangs-spec = tie.close (tie.spec (λ c κs. search needs) returns (λ c κs. search needs) (λ c κs. search needs) returns-2 (λ c κs. search needs) returns-3)

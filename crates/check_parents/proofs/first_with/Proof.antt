@@ -22,27 +22,27 @@ abbrev μ-loop : tie.MeasureT-loop
 
 loop-holds : tie.Need-loop-holds Inv-loop μ-loop
 loop-holds c =
-    let a = c .before .before .before .before .before .before .before .args in
+    let a = c .before .before .before .before .before .before .args in
     let sought = hasParents (tables (a .h) (a .l) (now (a .base)) (now (a .grown))) (a .ends) in
-    ap (λ (to : ℕ). firstAlong (now (a .nexts)) sought to (a .h .vertices)) (c .at .ensures ∙ ap (λ (k : ℕ). getD (now (a .heads)) k 0) (c .before .pair-key .ensures))
+    ap (λ (to : ℕ). firstAlong (now (a .nexts)) sought to (a .h .vertices)) (c .head-of .ensures)
 
 loop-less : tie.Need-loop-less Inv-loop μ-loop
-loop-less c = omega (arith, c .link .ensures, link-down (now (c .before .before .before .before .before .before .before .before .before .before .before .args .nexts)) (c .before .before .before .loop .to - 1), c .before .before .loop-test .taken)
+loop-less c = omega (arith, c .link .ensures, link-down (now (c .before .before .before .before .before .before .before .before .before .before .args .nexts)) (c .before .before .before .loop .to - 1), c .before .before .loop-test .taken)
 
 loop-again : tie.Need-loop-again Inv-loop μ-loop
 loop-again c =
-    let a = c .before .before .before .before .before .before .before .before .before .before .before .args in
+    let a = c .before .before .before .before .before .before .before .before .before .before .args in
     let sought = hasParents (tables (a .h) (a .l) (now (a .base)) (now (a .grown))) (a .ends) in
     let at = c .before .before .before .loop in
     ap₂ (firstAlong (now (a .nexts)) sought) (c .link .ensures) (c .before .found-at .ensures) ∙ sym (first-along-past (now (a .nexts)) sought (at .to) (at .found) (c .before .before .loop-test .taken)) ∙ at .inv
 
 returns : tie.Need-returns Inv-loop μ-loop
 returns c =
-    let a = c .before .before .before .before .before .before .before .before .before .args in
+    let a = c .before .before .before .before .before .before .before .before .args in
     let sought = hasParents (tables (a .h) (a .l) (now (a .base)) (now (a .grown))) (a .ends) in
     let at = c .before .loop in
     let end : 0 ≡ at .to = omega (arith, c .loop-test .left) in
     sym (first-along-none (now (a .nexts)) sought (at .found)) ∙ ap (λ (to : ℕ). firstAlong (now (a .nexts)) sought to (at .found)) end ∙ at .inv
 
 pub first-with-spec : {M : Type 1} → statement M
-first-with-spec = tie.close (tie.spec Inv-loop μ-loop (λ c. search needs) (λ c κs. search needs) (λ c κs. search needs) loop-holds (λ c. search needs) (λ c κs. search needs) (λ c κs. search needs) loop-less loop-again returns)
+first-with-spec = tie.close (tie.spec Inv-loop μ-loop (λ c. search needs) (λ c κs. search needs) loop-holds (λ c. search needs) (λ c κs. search needs) (λ c κs. search needs) loop-less loop-again returns)

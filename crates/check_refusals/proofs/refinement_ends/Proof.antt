@@ -1,12 +1,12 @@
 -- `check_refusals::refinement_ends`: the corners in the refinement edge's two slots, the lower first.
 -- Assumes nothing.
 use borrow.Author.Needs.{needs}
-use mathlib.Core.Path.{_≡_, ap, _∙_}
+use mathlib.Core.Path.{_≡_, ap, ap₂, _∙_}
 use Prim.Native.Nat.{ℕ}
 use denote.Ref.{now}
 use Rattle.piece_edges.specs.Edges.{lowSlot, highSlot}
 use Rattle.piece.specs.declared.Piece.{Piece}
-use Rattle.piece.specs.Ends.{cornerAt, ends-rising, ends-falling}
+use Rattle.piece.specs.Ends.{cornerAt, between, endsAt, ends-at}
 use Rattle.stored.specs.Layout.{recordIn}
 use Rattle.check_refusals.proofs.refinement_ends.Statement.{statement}
 use Rattle.check_refusals.proofs.refinement_ends.Tie as tie
@@ -16,26 +16,17 @@ in-slot : (p : Piece) (slot : ℕ → ℕ) {e k u : ℕ} → e ≡ p .edge → k
 in-slot p slot edge at corner = corner ∙ ap (cornerAt p) (at ∙ ap slot edge)
 
 returns : tie.Need-returns
+unfolding endsAt
 returns c =
     let low = c .before .before .before in
     let a = low .before .before .before .before .before .args in
     let p = recordIn (a .l) (now (a .base)) (now (a .grown)) (a .n) .piece in
     let edge = low .before .before .edge-in .ensures in
-    ends-rising p (p .edge)
+    c .ends-between .ensures
+    ∙ ap₂ between
     (in-slot p lowSlot edge (low .before .low-slot .ensures) (low .corner-in .ensures))
     (in-slot p highSlot edge (c .before .before .high-slot .ensures) (c .before .corner-in2 .ensures))
-    (c .if1 .taken)
-
-returns-2 : tie.Need-returns-2
-returns-2 c =
-    let low = c .before .before .before in
-    let a = low .before .before .before .before .before .args in
-    let p = recordIn (a .l) (now (a .base)) (now (a .grown)) (a .n) .piece in
-    let edge = low .before .before .edge-in .ensures in
-    ends-falling p (p .edge)
-    (in-slot p lowSlot edge (low .before .low-slot .ensures) (low .corner-in .ensures))
-    (in-slot p highSlot edge (c .before .before .high-slot .ensures) (c .before .corner-in2 .ensures))
-    (c .if1 .left)
+    ∙ ends-at p (p .edge)
 
 pub refinement-ends-spec : {M : Type 1} → statement M
 refinement-ends-spec =
@@ -46,5 +37,5 @@ refinement-ends-spec =
     (λ c κs. search needs)
     (λ c κs. search needs)
     (λ c κs. search needs)
-    returns
-    returns-2)
+    (λ c κs. search needs)
+    returns)
