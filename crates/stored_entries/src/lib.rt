@@ -8,7 +8,7 @@ use stored::Table;
 use stored::Vertex;
 ghost use mathlib.Core.Path.{_≡_};
 ghost use mathlib.Core.List.{[], _∷_};
-ghost use Prim.Native.Nat.{_*_, _≤_, _<_};
+ghost use Prim.Native.Nat.{_+_, _*_, _≤_, _<_};
 ghost use lib.ListN.{length, take, drop};
 ghost use Rattle.piece.specs.Shape.{shapeOf, mark};
 ghost use Rattle.piece.specs.Ends.{cornerAt};
@@ -72,12 +72,27 @@ fn record_held<'a>(l: Layout, base: &'a [u8], grown: &'a [u8], i: usize) -> &'a 
     held(format.record_width, records, base, grown, i)
 }
 
+// The number of two bytes that are there, with no test.
+fn two_of(s: &[u8], at: usize) -> u32
+    requires { ⌜ at + 1 < length (now s) ⌝ }
+    ensures { λ r. ⌜ r ≡ u16At (now (s .entry)) at ⌝ }
+    ensures { λ r. ⌜ r < 65536 ⌝ }
+{
+    slices::pair(s[at], s[at + 1])
+}
+
 // A coordinate, as its place.
+fn place_of(n: u32) -> u16
+    requires { ⌜ n < 65536 ⌝ }
+    ensures { λ r. ⌜ r ≡ placeOf n ⌝ }
+{
+    ((n + 32768) % 65536) as u16
+}
+
 fn place(s: &[u8], at: usize) -> u16
     ensures { λ r. ⌜ r ≡ placeOf (u16At (now (s .entry)) at) ⌝ }
 {
-    let n = slices::two(s, at);
-    ((n + 32768) % 65536) as u16
+    place_of(slices::two(s, at))
 }
 
 // A vertex or record number, which may be none.
@@ -97,14 +112,42 @@ fn number_or_none(s: &[u8], at: usize) -> u32
     or_none(slices::two(s, at))
 }
 
-fn vertex_from(entry: &[u8]) -> Vertex
-    ensures { λ r. ⌜ r ≡ vertexFrom (now (entry .entry)) ⌝ }
+// Where a vertex stands whose bytes may end early, coordinate by coordinate.
+fn short_place(entry: &[u8]) -> Place
+    ensures { λ r. ⌜ r ≡ vertexFrom (now (entry .entry)) .place ⌝ }
 {
-    let place = Place {
+    Place {
         x: place(entry, 0),
         y: place(entry, 2),
         z: place(entry, 4),
-    };
+    }
+}
+
+// The same where the three coordinates are all there.
+fn whole_place(entry: &[u8]) -> Place
+    requires { ⌜ 6 ≤ length (now entry) ⌝ }
+    ensures { λ r. ⌜ r ≡ vertexFrom (now (entry .entry)) .place ⌝ }
+{
+    Place {
+        x: place_of(two_of(entry, 0)),
+        y: place_of(two_of(entry, 2)),
+        z: place_of(two_of(entry, 4)),
+    }
+}
+
+fn place_from(entry: &[u8]) -> Place
+    ensures { λ r. ⌜ r ≡ vertexFrom (now (entry .entry)) .place ⌝ }
+{
+    if entry.len() < 6 {
+        return short_place(entry);
+    }
+    whole_place(entry)
+}
+
+fn vertex_from(entry: &[u8]) -> Vertex
+    ensures { λ r. ⌜ r ≡ vertexFrom (now (entry .entry)) ⌝ }
+{
+    let place = place_from(entry);
     Vertex {
         place: place,
         p: number_or_none(entry, 6),
@@ -122,12 +165,7 @@ pub fn vertex_in<'a>(l: Layout, base: &'a [u8], grown: &'a [u8], i: usize) -> Ve
 pub fn place_in<'a>(l: Layout, base: &'a [u8], grown: &'a [u8], i: usize) -> Place
     ensures { λ r. ⌜ r ≡ vertexIn l (now (base .entry)) (now (grown .entry)) i .place ⌝ }
 {
-    let entry = vertex_held(l, base, grown, i);
-    Place {
-        x: place(entry, 0),
-        y: place(entry, 2),
-        z: place(entry, 4),
-    }
+    place_from(vertex_held(l, base, grown, i))
 }
 
 // A vertex's parents alone, for searches.
@@ -141,7 +179,8 @@ pub fn parents_in<'a>(l: Layout, base: &'a [u8], grown: &'a [u8], i: usize) -> P
     }
 }
 
-fn corners_from(entry: &[u8]) -> [u32; 4]
+// The corners of a record whose bytes may end early, one by one.
+fn short_corners(entry: &[u8]) -> [u32; 4]
     ensures { λ r. ⌜ r ≡ orNone (u16At (now (entry .entry)) 0) ∷ orNone (u16At (now (entry .entry)) 2) ∷ orNone (u16At (now (entry .entry)) 4) ∷ orNone (u16At (now (entry .entry)) 6) ∷ [] ⌝ }
 {
     [
@@ -150,6 +189,28 @@ fn corners_from(entry: &[u8]) -> [u32; 4]
         number_or_none(entry, 4),
         number_or_none(entry, 6),
     ]
+}
+
+// Corners that are all there.
+fn whole_corners(entry: &[u8]) -> [u32; 4]
+    requires { ⌜ 8 ≤ length (now entry) ⌝ }
+    ensures { λ r. ⌜ r ≡ orNone (u16At (now (entry .entry)) 0) ∷ orNone (u16At (now (entry .entry)) 2) ∷ orNone (u16At (now (entry .entry)) 4) ∷ orNone (u16At (now (entry .entry)) 6) ∷ [] ⌝ }
+{
+    [
+        or_none(two_of(entry, 0)),
+        or_none(two_of(entry, 2)),
+        or_none(two_of(entry, 4)),
+        or_none(two_of(entry, 6)),
+    ]
+}
+
+fn corners_from(entry: &[u8]) -> [u32; 4]
+    ensures { λ r. ⌜ r ≡ orNone (u16At (now (entry .entry)) 0) ∷ orNone (u16At (now (entry .entry)) 2) ∷ orNone (u16At (now (entry .entry)) 4) ∷ orNone (u16At (now (entry .entry)) 6) ∷ [] ⌝ }
+{
+    if entry.len() < 8 {
+        return short_corners(entry);
+    }
+    whole_corners(entry)
 }
 
 fn marks_from(entry: &[u8]) -> [u8; 4]
@@ -167,7 +228,7 @@ fn marks_from(entry: &[u8]) -> [u8; 4]
 fn short_record(entry: &[u8]) -> Record
     ensures { λ r. ⌜ r ≡ recordFrom (now (entry .entry)) ⌝ }
 {
-    let corners = corners_from(entry);
+    let corners = short_corners(entry);
     let edge = slices::byte(entry, 8);
     let marks = marks_from(entry);
     let flag = slices::byte(entry, 13);
@@ -190,12 +251,7 @@ fn whole_record(entry: &[u8]) -> Record
     requires { ⌜ 17 ≤ length (now entry) ⌝ }
     ensures { λ r. ⌜ r ≡ recordFrom (now (entry .entry)) ⌝ }
 {
-    let corners = [
-        or_none(slices::pair(entry[0], entry[1])),
-        or_none(slices::pair(entry[2], entry[3])),
-        or_none(slices::pair(entry[4], entry[5])),
-        or_none(slices::pair(entry[6], entry[7])),
-    ];
+    let corners = whole_corners(entry);
     let piece = Piece {
         corners: corners,
         edge: entry[8],
@@ -205,7 +261,7 @@ fn whole_record(entry: &[u8]) -> Record
     };
     Record {
         piece: piece,
-        first_child: or_none(slices::pair(entry[15], entry[16])),
+        first_child: or_none(two_of(entry, 15)),
     }
 }
 

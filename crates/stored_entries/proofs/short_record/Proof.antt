@@ -7,7 +7,7 @@ use Rattle.stored_entries.proofs.short_record.Tie as tie
 
 returns : tie.Need-returns
 unfolding recordFrom
-returns c = rw (c .before .before .before .before .before .corners-from .ensures, c .before .before .before .before .byte .ensures, c .before .before .before .marks-from .ensures, c .before .before .byte2 .ensures, c .before .byte3 .ensures, c .number-or-none .ensures)
+returns c = rw (c .before .before .before .before .before .short-corners .ensures, c .before .before .before .before .byte .ensures, c .before .before .before .marks-from .ensures, c .before .before .byte2 .ensures, c .before .byte3 .ensures, c .number-or-none .ensures)
 
 pub short-record-spec : {M : Type 1} → statement M
 short-record-spec =
