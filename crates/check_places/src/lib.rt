@@ -34,8 +34,7 @@ fn bad_base_vertex(v: Vertex) -> bool
 fn stands_at<'a>(l: Layout, base: &'a [u8], grown: &'a [u8], u: usize, place: Place) -> bool
     ensures { λ r. ⌜ r ≡ samePlace (vertexIn l (now (base .entry)) (now (grown .entry)) u .place) place ⌝ }
 {
-    let other = stored_entries::vertex_in(l, base, grown, u);
-    let there = other.place;
+    let there = stored_entries::place_in(l, base, grown, u);
     grid::same_place(there, place)
 }
 
@@ -83,11 +82,9 @@ fn bad_made_vertex<'a>(l: Layout, base: &'a [u8], grown: &'a [u8], v: usize) -> 
         return true;
     }
     let place = vertex.place;
-    let one = stored_entries::vertex_in(l, base, grown, p);
-    let one_place = one.place;
-    let other = stored_entries::vertex_in(l, base, grown, q);
-    let other_place = other.place;
-    !grid::is_halfway(place, one_place, other_place)
+    let one = stored_entries::place_in(l, base, grown, p);
+    let other = stored_entries::place_in(l, base, grown, q);
+    !grid::is_halfway(place, one, other)
 }
 
 // Whether a vertex before v has v's parents.
@@ -147,9 +144,7 @@ fn vertex_key<'a>(h: Header, l: Layout, base: &'a [u8], grown: &'a [u8], v: usiz
     ensures { λ r. ⌜ r ≡ placeKeyOf (tables h l (now (base .entry)) (now (grown .entry))) v ⌝ }
 {
     if v < h.base_vertices as usize {
-        let vertex = stored_entries::vertex_in(l, base, grown, v);
-        let place = vertex.place;
-        return place_key(place);
+        return place_key(stored_entries::place_in(l, base, grown, v));
     }
     PLACE_HEADS
 }

@@ -16,7 +16,7 @@ returns-2 c = rw (← c .before .before .before .before .vertex-in .ensures, lt-
 
 returns-3 : tie.Need-returns-3
 unfolding badMadeVertex
-returns-3 c = rw (← c .before .before .before .before .before .before .before .before .before .before .vertex-in .ensures, lt-ltb _ _ (c .before .before .before .before .before .before .before .if1 .left), lt-ltb _ _ (c .before .before .before .before .before .before .if2 .left), ← c .before .before .before .before .vertex-in2 .ensures, ← c .before .before .vertex-in3 .ensures, ← c .is-halfway .ensures)
+returns-3 c = rw (← c .before .before .before .before .before .before .before .before .vertex-in .ensures, lt-ltb _ _ (c .before .before .before .before .before .if1 .left), lt-ltb _ _ (c .before .before .before .before .if2 .left), ← c .before .before .place-in .ensures, ← c .before .place-in2 .ensures, ← c .is-halfway .ensures)
 
 pub bad-made-vertex-spec : {M : Type 1} → statement M
 bad-made-vertex-spec = tie.close (tie.spec (λ c κs. search needs) (λ c. search needs) (λ c. search needs) returns returns-2 (λ c κs. search needs) (λ c κs. search needs) (λ c κs. search needs) returns-3)

@@ -8,7 +8,7 @@ use Rattle.check_places.proofs.vertex_key.Tie as tie
 
 returns : tie.Need-returns
 unfolding placeKeyOf
-returns c = rw (lt-ltb _ _ (c .before .before .before .if1 .taken), ← c .before .before .vertex-in .ensures) (c .place-key .ensures)
+returns c = rw (lt-ltb _ _ (c .before .before .if1 .taken), ← c .before .place-in .ensures) (c .place-key .ensures)
 
 returns-2 : tie.Need-returns-2
 unfolding placeKeyOf
