@@ -40,18 +40,18 @@ fn is_type_p(p: Piece) -> bool
 pub fn is_set_p(p: Piece) -> bool
     ensures { λ r. ⌜ r ≡ setP (shapeOf p) ⌝ }
 {
-    if is_type_p(p) {
-        return p.flag != 0;
+    if p.flag == 0 {
+        return false;
     }
-    false
+    is_type_p(p)
 }
 
 // Whether the piece is of type P_u.
 pub fn is_unset_p(p: Piece) -> bool
     ensures { λ r. ⌜ r ≡ unsetP (shapeOf p) ⌝ }
 {
-    if is_type_p(p) {
-        return p.flag == 0;
+    if p.flag != 0 {
+        return false;
     }
-    false
+    is_type_p(p)
 }
