@@ -105,10 +105,11 @@ fn bad_cut<'a>(
     if check_refusals::is_leaf(l, base, grown, n) {
         return false;
     }
-    let ends = check_refusals::refinement_ends(l, base, grown, n);
+    let record = stored_entries::record_in(l, base, grown, n);
+    let p = record.piece;
+    let ends = piece::ends_of(p, p.edge);
     let w = vertex_with(h, l, base, grown, heads, nexts, ends);
     chains::count(used, w);
-    let record = stored_entries::record_in(l, base, grown, n);
     bad_children(h, l, base, grown, n, record, w)
 }
 
