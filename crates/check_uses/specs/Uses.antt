@@ -20,20 +20,21 @@ use Rattle.check_refusals.specs.Refusals.{hasCorner, unusedVertex}
 abbrev pub usedAt : List ℕ → ℕ → List ℕ
 usedAt uses x = set uses x (getD uses x 0 + 1)
 
--- One use more of each corner.
-unfoldable pub usedBy : List ℕ → Piece → List ℕ
-usedBy uses p = usedAt (usedAt (usedAt (usedAt uses (cornerAt p 0)) (cornerAt p 1)) (cornerAt p 2)) (cornerAt p 3)
+-- One use more of each of a piece's four corners.
+unfoldable pub usedBy : List ℕ → List ℕ → List ℕ
+usedBy uses corners =
+    usedAt (usedAt (usedAt (usedAt uses (getD corners 0 0)) (getD corners 1 0)) (getD corners 2 0)) (getD corners 3 0)
 
 -- The table after the first n records, whose pieces are at.
 unfoldable pub usesAfter : (ℕ → Piece) → ℕ → List ℕ
 unfolding foldBelow
-usesAfter at n = foldBelow (replicate (limits .vertices) 0) usedBy n at
+usesAfter at n = foldBelow (replicate (limits .vertices) 0) (λ uses p. usedBy uses (p .corners)) n at
 
 pub uses-none : (at : ℕ → Piece) → usesAfter at 0 ≡ replicate (limits .vertices) 0
 unfolding usesAfter
 uses-none at = refl
 
-pub uses-suc : (at : ℕ → Piece) (n : ℕ) → usesAfter at (suc n) ≡ usedBy (usesAfter at n) (at n)
+pub uses-suc : (at : ℕ → Piece) (n : ℕ) → usesAfter at (suc n) ≡ usedBy (usesAfter at n) (at n .corners)
 unfolding usesAfter
 uses-suc at n = refl
 
@@ -60,11 +61,11 @@ used-small uses x v =
 unfoldable pub cornerUses : Piece → ℕ → ℕ
 cornerUses p v = bit (eqb (cornerAt p 0) v) + bit (eqb (cornerAt p 1) v) + bit (eqb (cornerAt p 2) v) + bit (eqb (cornerAt p 3) v)
 
-pub length-used-by : (uses : List ℕ) (p : Piece) → length (usedBy uses p) ≡ length uses
+pub length-used-by : (uses corners : List ℕ) → length (usedBy uses corners) ≡ length uses
 unfolding usedBy
-length-used-by uses p = simp length-set
+length-used-by uses corners = simp length-set
 
-used-by : (uses : List ℕ) (p : Piece) (v : ℕ) → v < length uses → getD (usedBy uses p) v 0 ≡ getD uses v 0 + cornerUses p v
+used-by : (uses : List ℕ) (p : Piece) (v : ℕ) → v < length uses → getD (usedBy uses (p .corners)) v 0 ≡ getD uses v 0 + cornerUses p v
 unfolding usedBy cornerUses
 used-by uses p v h =
     let a = cornerAt p 0 in
@@ -81,7 +82,7 @@ used-by uses p v h =
 
 pub uses-long : (at : ℕ → Piece) (n : ℕ) → length (usesAfter at n) ≡ limits .vertices
 uses-long at zero = rw uses-none (length-replicate {A = ℕ} (limits .vertices) 0)
-uses-long at (suc n) = rw uses-suc (length-used-by (usesAfter at n) (at n) ∙ uses-long at n)
+uses-long at (suc n) = rw uses-suc (length-used-by (usesAfter at n) (at n .corners) ∙ uses-long at n)
 
 -- What the table says of a vertex.
 pub uses-is : (at : ℕ → Piece) (n v : ℕ) → v < limits .vertices → getD (usesAfter at n) v 0 ≡ sumBelow n (λ r. cornerUses (at r) v)

@@ -1,5 +1,4 @@
 // Refusal 8: a table with one count for each possible vertex, filled from the base records and then read.
-use piece::Piece;
 use stored::Header;
 use stored::Layout;
 ghost use mathlib.Core.Path.{_≡_};
@@ -22,23 +21,22 @@ fn count_use(uses: &mut [u64], x: u32)
     }
 }
 
-fn count_corners(uses: &mut [u64], p: Piece)
+fn count_corners(uses: &mut [u64], corners: [u32; 4])
     requires { ⌜ ((k : ℕ) → getD (now uses) k 0 < 900000000000) ⌝ }
-    ensures { λ _. ⌜ now (uses .exit) ≡ usedBy (now (uses .entry)) p ⌝ }
+    ensures { λ _. ⌜ now (uses .exit) ≡ usedBy (now (uses .entry)) corners ⌝ }
 {
-    count_use(uses, piece::corner(p, 0));
-    count_use(uses, piece::corner(p, 1));
-    count_use(uses, piece::corner(p, 2));
-    count_use(uses, piece::corner(p, 3));
+    count_use(uses, corners[0]);
+    count_use(uses, corners[1]);
+    count_use(uses, corners[2]);
+    count_use(uses, corners[3]);
 }
 
 fn count_record<'a>(uses: &mut [u64], l: Layout, base: &'a [u8], grown: &'a [u8], n: usize)
     requires { ⌜ ((k : ℕ) → getD (now uses) k 0 < 900000000000) ⌝ }
-    ensures { λ _. ⌜ now (uses .exit) ≡ usedBy (now (uses .entry)) (recordIn l (now (base .entry)) (now (grown .entry)) n .piece) ⌝ }
+    ensures { λ _. ⌜ now (uses .exit) ≡ usedBy (now (uses .entry)) (recordIn l (now (base .entry)) (now (grown .entry)) n .piece .corners) ⌝ }
 {
-    let record = stored_entries::record_in(l, base, grown, n);
-    let p = record.piece;
-    count_corners(uses, p);
+    let corners = stored_entries::corners_in(l, base, grown, n);
+    count_corners(uses, corners);
 }
 
 fn count_records<'a>(uses: &mut [u64], l: Layout, base: &'a [u8], grown: &'a [u8], count: usize)

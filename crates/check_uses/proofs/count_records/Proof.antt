@@ -28,7 +28,7 @@ count-record-requires : tie.Need-count-record-requires Inv-loop μ-loop
 count-record-requires c κs = λ k. rw (c .before .before .loop .inv .1) (omega (arith, uses-small (λ r. recordIn (c .before .before .before .before .before .before .args .l) (now (c .before .before .before .before .before .before .args .base)) (now (c .before .before .before .before .before .before .args .grown)) r .piece) (c .before .before .loop .n) k, c .before .loop-test .taken, c .before .before .before .before .before .before .pre .1))
 
 loop-again : tie.Need-loop-again Inv-loop μ-loop
-loop-again c = (omega arith, c .before .before .count-record .ensures ∙ ap (λ (l : List ℕ). usedBy l (recordIn (c .before .before .before .before .before .before .before .before .before .args .l) (now (c .before .before .before .before .before .before .before .before .before .args .base)) (now (c .before .before .before .before .before .before .before .before .before .args .grown)) (c .before .before .before .before .before .loop .n) .piece)) (c .before .before .before .before .before .loop .inv .1) ∙ sym (uses-suc (λ r. recordIn (c .before .before .before .before .before .before .before .before .before .args .l) (now (c .before .before .before .before .before .before .before .before .before .args .base)) (now (c .before .before .before .before .before .before .before .before .before .args .grown)) r .piece) (c .before .before .before .before .before .loop .n)) ∙ ap (usesAfter (λ r. recordIn (c .before .before .before .before .before .before .before .before .before .args .l) (now (c .before .before .before .before .before .before .before .before .before .args .base)) (now (c .before .before .before .before .before .before .before .before .before .args .grown)) r .piece)) (sym (add-one (c .before .before .before .before .before .loop .n))))
+loop-again c = (omega arith, c .before .before .count-record .ensures ∙ ap (λ (l : List ℕ). usedBy l (recordIn (c .before .before .before .before .before .before .before .before .before .args .l) (now (c .before .before .before .before .before .before .before .before .before .args .base)) (now (c .before .before .before .before .before .before .before .before .before .args .grown)) (c .before .before .before .before .before .loop .n) .piece .corners)) (c .before .before .before .before .before .loop .inv .1) ∙ sym (uses-suc (λ r. recordIn (c .before .before .before .before .before .before .before .before .before .args .l) (now (c .before .before .before .before .before .before .before .before .before .args .base)) (now (c .before .before .before .before .before .before .before .before .before .args .grown)) r .piece) (c .before .before .before .before .before .loop .n)) ∙ ap (usesAfter (λ r. recordIn (c .before .before .before .before .before .before .before .before .before .args .l) (now (c .before .before .before .before .before .before .before .before .before .args .base)) (now (c .before .before .before .before .before .before .before .before .before .args .grown)) r .piece)) (sym (add-one (c .before .before .before .before .before .loop .n))))
 
 same-length : tie.Need-same-length Inv-loop μ-loop
 same-length c = ap length (c .before .loop .inv .1) ∙ uses-long (λ r. recordIn (c .before .before .before .before .before .args .l) (now (c .before .before .before .before .before .args .base)) (now (c .before .before .before .before .before .args .grown)) r .piece) (c .before .loop .n) ∙ sym (ap length (c .before .before .before .before .before .pre .0) ∙ length-replicate {A = ℕ} (limits .vertices) 0)
