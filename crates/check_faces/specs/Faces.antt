@@ -26,17 +26,17 @@ isFace recordAt face f = sameSet (faceOf (recordAt (f / 4) .piece .corners) (f %
 unfoldable pub isBefore : (ℕ → Record) → Face → ℕ → ℕ → Bool
 isBefore recordAt face r f = ltb (f / 4) r && isFace recordAt face f
 
--- Face f is this one, which is face i of q, with another mark, or its record has q's corners, or a record before its record has the face too.
+-- Face f is this one, which is face i of q, with another mark, or its record has q's corners, or a record before its record has the face too: before f.
 unfoldable pub badFace : (ℕ → Record) → (ℕ → Bool) → Piece → ℕ → Face → ℕ → Bool
 badFace recordAt before q i face f =
     isFace recordAt face f
-    && (not (sameMark (recordAt (f / 4) .piece) (f % 4) q i) || (sameRest (recordAt (f / 4) .piece .corners) (f % 4) (q .corners) i || before (f / 4)))
+    && (not (sameMark (recordAt (f / 4) .piece) (f % 4) q i) || (sameRest (recordAt (f / 4) .piece .corners) (f % 4) (q .corners) i || before f))
 
 -- What is read of its record: the corners p and the mark e; d is q's mark.
 pub bad-face-is : (recordAt : ℕ → Record) (before : ℕ → Bool) (q : Piece) (i : ℕ) (face : Face) (f : ℕ) (p : List ℕ) (e d : ℕ) →
     p ≡ recordAt (f / 4) .piece .corners → e ≡ mark (shapeOf (recordAt (f / 4) .piece)) (f % 4) → d ≡ mark (shapeOf q) i →
     badFace recordAt before q i face f
-    ≡ (sameSet (faceOf p (f % 4)) face && (not (sameEdge p e (q .corners) d) || (sameRest p (f % 4) (q .corners) i || before (f / 4))))
+    ≡ (sameSet (faceOf p (f % 4)) face && (not (sameEdge p e (q .corners) d) || (sameRest p (f % 4) (q .corners) i || before f)))
 unfolding badFace isFace sameMark
 bad-face-is recordAt before q i face f p e d pe ee de =
     let P : Piece = recordAt (f / 4) .piece in
@@ -53,7 +53,7 @@ module _ (recordAt : ℕ → Record) (q : Piece) (n : ℕ) where
 
   -- Face i is bad with face f.
   abbrev Bad : ℕ → ℕ → Bool
-  Bad i f = badFace recordAt (Before i) q i (faceOf (q .corners) i) f
+  Bad i f = badFace recordAt (λ g. Before i (g / 4)) q i (faceOf (q .corners) i) f
 
   is-face : (i f : ℕ) → i < 4 → isFace recordAt (faceOf (q .corners) i) f ≡ sameFace (Of (f / 4)) (f % 4) q i
   unfolding isFace

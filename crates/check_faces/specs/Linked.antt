@@ -1,13 +1,15 @@
 -- The faces of the records so far, linked by their keys: what is found along the links is what a search through all faces would find.
-use mathlib.Core.Path.{_≡_, ap, _∙_}
-use mathlib.Core.Bool.{Bool, true, _||_}
+use mathlib.Core.Path.{_≡_, sym, _∙_}
+use mathlib.Core.Bool.{Bool, true, false, _||_}
+use mathlib.Core.Logic.{⊎-elim}
 use mathlib.Core.List.{List}
-use Prim.Native.Nat.{ℕ, suc, _+_, _*_, _/_, _%_, _<_}
+use Prim.Native.Nat.{ℕ, suc, _+_, _*_, _/_, _%_, _≤_, _<_}
 use native.Mathlib.Omega.{arith}
 use lib.Dec.{ltb}
+use borrow.Author.Tests.{le-ltb}
 use lib.ListN.{length, getD, replicate, length-replicate}
-use Rattle.laws.specs.Below.{anyBelow, any-none, any-suc, any-same, and-left, and-right}
-use Rattle.laws.specs.Links.{Links, linksOf, Chain, pushed, pushed-heads-long, pushed-nexts-long, anyAlong, zeros-at, chain-start, chain-pushed, chain-any}
+use Rattle.laws.specs.Below.{anyBelow, any-none, any-suc, any-same, and-left, and-right, either}
+use Rattle.laws.specs.Links.{Links, linksOf, Chain, pushed, pushed-heads-long, pushed-nexts-long, anyAlong, any-along-none, linkAt, zeros-at, chain-start, chain-pushed, any-gap, chain-any, chain-any-on}
 use Rattle.piece.specs.declared.Piece.{Piece}
 use Rattle.stored.specs.declared.Record.{Record}
 use Rattle.stored.specs.Layout.{limits}
@@ -30,9 +32,18 @@ keysOf p = record { first = keyOf (faceOf p 0); second = keyOf (faceOf p 1); thi
 unfoldable pub beforeAlong : (ℕ → Record) → List ℕ → ℕ → Face → ℕ → Bool
 beforeAlong recordAt nexts m face r = anyAlong nexts (isBefore recordAt face r) m
 
--- Face i of q is bad with a face along them.
+-- A record before face f's record has this face, as far as the links from face f's link on lead.
+unfoldable pub beforeFrom : (ℕ → Record) → List ℕ → Face → ℕ → Bool
+beforeFrom recordAt nexts face f = beforeAlong recordAt nexts (linkAt nexts f) face (f / 4)
+
+-- Face i of q is bad with a face along the links from m on.
 unfoldable pub badAlong : (ℕ → Record) → List ℕ → ℕ → Piece → ℕ → Bool
-badAlong recordAt nexts m q i = let face = faceOf (q .corners) i in anyAlong nexts (badFace recordAt (beforeAlong recordAt nexts m face) q i face) m
+badAlong recordAt nexts m q i = let face = faceOf (q .corners) i in anyAlong nexts (badFace recordAt (beforeFrom recordAt nexts face) q i face) m
+
+-- Where the links end.
+pub bad-none : (recordAt : ℕ → Record) (nexts : List ℕ) (q : Piece) (i : ℕ) → badAlong recordAt nexts 0 q i ≡ false
+unfolding badAlong
+bad-none recordAt nexts q i = let face = faceOf (q .corners) i in any-along-none nexts (badFace recordAt (beforeFrom recordAt nexts face) q i face)
 
 -- One of q's faces, which have these keys, is.
 unfoldable pub badLinked : (ℕ → Record) → List ℕ → List ℕ → Piece → Keys → Bool
@@ -118,21 +129,47 @@ module _ (recordAt : ℕ → Record) where
     Head = getD (links .heads) (keyOf Sought) 0
 
     -- Faces that are the same have one key.
-    only : (P : ℕ → Bool) → ((f : ℕ) → P f ≡ true → isFace recordAt Sought f ≡ true) → anyAlong (links .nexts) P Head ≡ anyBelow c P
+    one-key : (f : ℕ) → isFace recordAt Sought f ≡ true → keyAt recordAt f ≡ keyOf Sought
     unfolding isFace keyAt
-    only P h =
-        chain-any (keyAt recordAt) c (links .heads) (links .nexts) (on .chain) P (keyOf Sought) (rw (on .heads-long) (key-within Sought))
-        (λ f l t. same-key (faceOf (recordAt (f / 4) .piece .corners) (f % 4)) Sought (h f t))
+    one-key f t = same-key (faceOf (recordAt (f / 4) .piece .corners) (f % 4)) Sought t
 
-    before-is : (r : ℕ) → beforeAlong recordAt (links .nexts) Head Sought r ≡ anyBelow c (isBefore recordAt Sought r)
-    unfolding beforeAlong isBefore
-    before-is r = only (isBefore recordAt Sought r) (λ f t. and-right (ltb (f / 4) r) (isFace recordAt Sought f) t)
+    -- A face along the links, and one below it of a record before its own.
+    module _ (f : ℕ) (low : f < c) (same : isFace recordAt Sought f ≡ true) where
+      abbrev Earlier : ℕ → Bool
+      Earlier = isBefore recordAt Sought (f / 4)
 
-    bad-is : badAlong recordAt (links .nexts) Head q i ≡ anyBelow c (badFace recordAt (λ r. anyBelow c (isBefore recordAt Sought r)) q i Sought)
+      from-link : beforeFrom recordAt (links .nexts) Sought f ≡ anyBelow f Earlier
+      unfolding beforeFrom beforeAlong isBefore
+      from-link =
+          chain-any-on (keyAt recordAt) c (links .heads) (links .nexts) (on .chain) Earlier (keyOf Sought) (rw (on .heads-long) (key-within Sought))
+          (λ g l t. one-key g (and-right (ltb (g / 4) (f / 4)) (isFace recordAt Sought g) t))
+          f low (one-key f same)
+
+      -- A face from f on is of no record before.
+      none-past : (g : ℕ) → f ≤ g → g < c → Earlier g ≡ false
+      unfolding isBefore
+      none-past g up l = rw (le-ltb (g / 4) (f / 4) (omega arith))
+
+      before-is : beforeFrom recordAt (links .nexts) Sought f ≡ anyBelow c Earlier
+      before-is = from-link ∙ sym (any-gap Earlier f c (omega arith) none-past)
+
+    -- Face f is bad along the links, and among all faces.
+    abbrev Bad : ℕ → Bool
+    Bad = badFace recordAt (beforeFrom recordAt (links .nexts) Sought) q i Sought
+
+    abbrev BadOfAll : ℕ → Bool
+    BadOfAll = badFace recordAt (λ f. anyBelow c (isBefore recordAt Sought (f / 4))) q i Sought
+
+    same-bad : (f : ℕ) → f < c → Bad f ≡ BadOfAll f
+    unfolding badFace
+    same-bad f l = ⊎-elim (λ t. rw (before-is f l t)) (λ d. rw d) (either (isFace recordAt Sought f))
+
+    bad-is : badAlong recordAt (links .nexts) Head q i ≡ anyBelow c BadOfAll
     unfolding badAlong badFace
     bad-is =
-        ap (λ (before : ℕ → Bool). anyAlong (links .nexts) (badFace recordAt before q i Sought) Head) (λ x r. before-is r x)
-        ∙ only (badFace recordAt (λ r. anyBelow c (isBefore recordAt Sought r)) q i Sought) (λ f t. and-left (isFace recordAt Sought f) _ t)
+        chain-any (keyAt recordAt) c (links .heads) (links .nexts) (on .chain) Bad (keyOf Sought) (rw (on .heads-long) (key-within Sought))
+        (λ f l t. one-key f (and-left (isFace recordAt Sought f) _ t))
+        ∙ any-same c Bad BadOfAll same-bad
 
   -- Four tests.
   any-four : (P : ℕ → Bool) → (P 0 || P 1 || P 2 || P 3) ≡ anyBelow 4 P
@@ -145,5 +182,5 @@ module _ (recordAt : ℕ → Record) where
   linked-is n links on =
       let q : Piece = recordAt n .piece in
       let Along : ℕ → Bool = λ i. badAlong recordAt (links .nexts) (getD (links .heads) (keyOf (faceOf (q .corners) i)) 0) q i in
-      let Below : ℕ → Bool = λ i. anyBelow (4 * n) (badFace recordAt (λ r. anyBelow (4 * n) (isBefore recordAt (faceOf (q .corners) i) r)) q i (faceOf (q .corners) i)) in
+      let Below : ℕ → Bool = λ i. anyBelow (4 * n) (badFace recordAt (λ f. anyBelow (4 * n) (isBefore recordAt (faceOf (q .corners) i) (f / 4))) q i (faceOf (q .corners) i)) in
       any-four Along ∙ any-same 4 Along Below (λ i l. bad-is (4 * n) links on q i) ∙ by-faces recordAt q n

@@ -8,6 +8,7 @@ use stored::Header;
 use stored::Layout;
 ghost use mathlib.Core.Path.{_≡_};
 ghost use Prim.Native.Nat.{_≤_, _<_};
+ghost use lib.ListN.{getD};
 ghost use Rattle.laws.specs.Below.{anyBelow};
 ghost use Rattle.laws.specs.Links.{linksOf};
 ghost use Rattle.stored.specs.Layout.{limits, recordIn};
@@ -15,7 +16,7 @@ ghost use Rattle.check_refusals.specs.Tables.{tables};
 ghost use Rattle.check_refusals.specs.Refusals.{badFaces, badBaseFaces};
 ghost use Rattle.check_refusals.specs.Bounded.{Room, orBeyond};
 ghost use Rattle.check_faces.specs.Faces.{isFace, isBefore, badFace};
-ghost use Rattle.check_faces.specs.Linked.{keysOf, beforeAlong, badAlong, badLinked, pushedFaces, Linked};
+ghost use Rattle.check_faces.specs.Linked.{keysOf, beforeAlong, beforeFrom, badAlong, badLinked, pushedFaces, Linked};
 
 // How many faces the records may have.
 const FACES: usize = 4 * stored::RECORDS;
@@ -81,19 +82,18 @@ fn before_along<'a>(
     false
 }
 
-// Whether face f is this one, which is face i of q, and the two records are bad together.
+// Whether face f is this one, which is face i of q, and the two records are bad together. Links lead down: a face of a record before stands further along.
 fn bad_face<'a>(
     l: Layout,
     base: &'a [u8],
     grown: &'a [u8],
     nexts: &[u16],
-    m: usize,
     q: Piece,
     i: u8,
     face: Face,
     f: usize,
 ) -> bool
-    ensures { λ b. ⌜ b ≡ badFace (recordIn l (now (base .entry)) (now (grown .entry))) (beforeAlong (recordIn l (now (base .entry)) (now (grown .entry))) (now (nexts .entry)) m face) q i face f ⌝ }
+    ensures { λ b. ⌜ b ≡ badFace (recordIn l (now (base .entry)) (now (grown .entry))) (beforeFrom (recordIn l (now (base .entry)) (now (grown .entry))) (now (nexts .entry)) face) q i face f ⌝ }
 {
     let r = f / 4;
     let j = (f % 4) as u8;
@@ -110,7 +110,7 @@ fn bad_face<'a>(
     if check_shared::same_rest(p, j, c, i) {
         return true;
     }
-    before_along(l, base, grown, nexts, m, face, r)
+    before_along(l, base, grown, nexts, chains::link(nexts, f), face, r)
 }
 
 // Whether face i of q is bad with a face along the links from m on.
@@ -130,12 +130,32 @@ fn bad_along<'a>(
     let mut to = m;
     while 0 < to {
         let f = to - 1;
-        if bad_face(l, base, grown, nexts, m, q, i, face, f) {
+        if bad_face(l, base, grown, nexts, q, i, face, f) {
             return true;
         }
         to = chains::link(nexts, f);
     }
     false
+}
+
+// The same from the head of a key on; most keys have no face.
+fn bad_at<'a>(
+    l: Layout,
+    base: &'a [u8],
+    grown: &'a [u8],
+    heads: &[u16],
+    nexts: &[u16],
+    key: usize,
+    q: Piece,
+    i: u8,
+) -> bool
+    ensures { λ b. ⌜ b ≡ badAlong (recordIn l (now (base .entry)) (now (grown .entry))) (now (nexts .entry)) (getD (now (heads .entry)) key 0) q i ⌝ }
+{
+    let m = chains::at(heads, key);
+    if m == 0 {
+        return false;
+    }
+    bad_along(l, base, grown, nexts, m, q, i)
 }
 
 // Whether one of q's faces is, each along the links of its own key.
@@ -150,16 +170,16 @@ fn bad_linked<'a>(
 ) -> bool
     ensures { λ b. ⌜ b ≡ badLinked (recordIn l (now (base .entry)) (now (grown .entry))) (now (heads .entry)) (now (nexts .entry)) q keys ⌝ }
 {
-    if bad_along(l, base, grown, nexts, chains::at(heads, keys.first), q, 0) {
+    if bad_at(l, base, grown, heads, nexts, keys.first, q, 0) {
         return true;
     }
-    if bad_along(l, base, grown, nexts, chains::at(heads, keys.second), q, 1) {
+    if bad_at(l, base, grown, heads, nexts, keys.second, q, 1) {
         return true;
     }
-    if bad_along(l, base, grown, nexts, chains::at(heads, keys.third), q, 2) {
+    if bad_at(l, base, grown, heads, nexts, keys.third, q, 2) {
         return true;
     }
-    bad_along(l, base, grown, nexts, chains::at(heads, keys.fourth), q, 3)
+    bad_at(l, base, grown, heads, nexts, keys.fourth, q, 3)
 }
 
 // The faces of record n are put before the others with their keys.

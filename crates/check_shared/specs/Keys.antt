@@ -13,7 +13,7 @@ use Rattle.check_shared.specs.Faces.{holds, inside, sameSet}
 
 -- How many keys there are.
 abbrev pub faceHeads : ℕ
-faceHeads = 8192
+faceHeads = 32768
 
 -- A number that is below top; 0 instead of another.
 unfoldable pub under : ℕ → ℕ → ℕ

@@ -10,7 +10,7 @@ ghost use Rattle.check_shared.specs.Rest.{has, sameRest};
 ghost use Rattle.check_shared.specs.Marks.{sameTwo, sameEdge};
 
 // How many keys there are.
-pub const FACE_HEADS: usize = 8192;
+pub const FACE_HEADS: usize = 32768;
 
 // The corners of a face.
 pub struct Face {

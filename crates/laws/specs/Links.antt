@@ -473,6 +473,14 @@ module _ (key : ℕ → ℕ) (n : ℕ) (heads nexts : List ℕ) (c : Chain key n
       rw head-is (any-from (lastOf n) (lastOf n) (le-refl (lastOf n)) (last-on n (le-refl n)))
       ∙ sym (any-gap P (lastOf n) n low-head (last-gap n (le-refl n)))
 
+  -- From the link of a number with key k on, whether there is one below it.
+  pub chain-any-on : (u : ℕ) → u < n → key u ≡ k → anyAlong nexts P (linkAt nexts u) ≡ anyBelow u P
+  chain-any-on u b e =
+      let to = link-is u b e in
+      let low : lastOf u ≤ u = rw (← to) (link-down nexts u) in
+      rw to (any-from (lastOf u) (lastOf u) (le-refl (lastOf u)) (last-on u (omega arith)))
+      ∙ sym (any-gap P (lastOf u) u low (last-gap u (omega arith)))
+
   -- The first of them.
   pub chain-first : firstAlong nexts P (getD heads k 0) n ≡ firstBelow n P
   chain-first =

@@ -9,12 +9,12 @@ use denote.Ref.{now}
 use Rattle.laws.specs.Links.{anyAlong, any-along-none, any-along-found, any-along-past, link-down}
 use Rattle.stored.specs.Layout.{recordIn}
 use Rattle.check_faces.specs.Faces.{badFace}
-use Rattle.check_faces.specs.Linked.{beforeAlong, badAlong}
+use Rattle.check_faces.specs.Linked.{beforeFrom, badAlong}
 use Rattle.check_faces.proofs.bad_along.Statement.{statement}
 use Rattle.check_faces.proofs.bad_along.Tie as tie
 
 abbrev Inv-loop : tie.InvT-loop
-Inv-loop l base grown nexts m q i face to₀ to = anyAlong nexts (badFace (recordIn l base grown) (beforeAlong (recordIn l base grown) nexts m face) q i face) to ≡ anyAlong nexts (badFace (recordIn l base grown) (beforeAlong (recordIn l base grown) nexts m face) q i face) m
+Inv-loop l base grown nexts m q i face to₀ to = anyAlong nexts (badFace (recordIn l base grown) (beforeFrom (recordIn l base grown) nexts face) q i face) to ≡ anyAlong nexts (badFace (recordIn l base grown) (beforeFrom (recordIn l base grown) nexts face) q i face) m
 
 abbrev μ-loop : tie.MeasureT-loop
 μ-loop l base grown nexts m q i face to₀ to = to
@@ -27,7 +27,7 @@ unfolding badAlong
 returns c =
     let a = c .before .before .before .before .before .before .before .before .before .args in
     let found = c .before .before .before .before .face-of .result in
-    let sought : ℕ → Bool = badFace (recordIn (a .l) (now (a .base)) (now (a .grown))) (beforeAlong (recordIn (a .l) (now (a .base)) (now (a .grown))) (now (a .nexts)) (a .m) found) (a .q) (a .i) found in
+    let sought : ℕ → Bool = badFace (recordIn (a .l) (now (a .base)) (now (a .grown))) (beforeFrom (recordIn (a .l) (now (a .base)) (now (a .grown))) (now (a .nexts)) found) (a .q) (a .i) found in
     let at = c .before .before .before .loop in
     rw (← c .before .before .before .before .face-of .ensures) (sym (any-along-found (now (a .nexts)) sought (at .to) (c .before .before .loop-test .taken) (sym (c .before .bad-face .ensures) ∙ c .if1 .taken)) ∙ at .inv)
 
@@ -38,7 +38,7 @@ loop-again : tie.Need-loop-again Inv-loop μ-loop
 loop-again c =
     let a = c .before .before .before .before .before .before .before .before .before .before .args in
     let found = c .before .before .before .before .before .face-of .result in
-    let sought : ℕ → Bool = badFace (recordIn (a .l) (now (a .base)) (now (a .grown))) (beforeAlong (recordIn (a .l) (now (a .base)) (now (a .grown))) (now (a .nexts)) (a .m) found) (a .q) (a .i) found in
+    let sought : ℕ → Bool = badFace (recordIn (a .l) (now (a .base)) (now (a .grown))) (beforeFrom (recordIn (a .l) (now (a .base)) (now (a .grown))) (now (a .nexts)) found) (a .q) (a .i) found in
     let at = c .before .before .before .before .loop in
     ap (anyAlong (now (a .nexts)) sought) (c .link .ensures)
     ∙ sym (any-along-past (now (a .nexts)) sought (at .to) (c .before .before .before .loop-test .taken) (sym (c .before .before .bad-face .ensures) ∙ c .before .if1 .left))
@@ -49,7 +49,7 @@ unfolding badAlong
 returns-2 c =
     let a = c .before .before .before .before .before .before .before .args in
     let found = c .before .before .face-of .result in
-    let sought : ℕ → Bool = badFace (recordIn (a .l) (now (a .base)) (now (a .grown))) (beforeAlong (recordIn (a .l) (now (a .base)) (now (a .grown))) (now (a .nexts)) (a .m) found) (a .q) (a .i) found in
+    let sought : ℕ → Bool = badFace (recordIn (a .l) (now (a .base)) (now (a .grown))) (beforeFrom (recordIn (a .l) (now (a .base)) (now (a .grown))) (now (a .nexts)) found) (a .q) (a .i) found in
     let at = c .before .loop in
     let end : 0 ≡ at .to = omega (arith, c .loop-test .left) in
     rw (← c .before .before .face-of .ensures) (sym (any-along-none (now (a .nexts)) sought) ∙ ap (anyAlong (now (a .nexts)) sought) end ∙ at .inv)
