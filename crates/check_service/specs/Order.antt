@@ -11,13 +11,14 @@ use Rattle.check_hanging.specs.Hanging.{foundOf}
 use Rattle.check_refusals.specs.Tables.{Tables, tablesOf}
 use Rattle.check_refusals.specs.declared.Report.{Report}
 use Rattle.check_refusals.specs.Refusals.{wrongLength, wrongMark, wrongCounts, badVertices, badBaseRecords, badBaseMarks, badBaseFaces, unusedVertices, badCuts, hangsAt, hangingEdge}
-use Rattle.check_refusals.specs.Check.{row, tableRows, rows, firstBroken, checkNumber, firstHanging, refusedWith, accepted, hangingReport, reportOf, checkOf}
+use Rattle.check_refusals.specs.Check.{row, tableRows, rows, firstBroken, checkNumber, firstHanging, refusedWith, hangingReport, reportOf, checkOf}
+use Rattle.check_service.specs.Verdict.{withoutFigures}
 
--- Refusal 10, or acceptance.
+-- Refusal 10, or 0.
 unfoldable pub closedReport : Tables → Report
-closedReport m = cond (hangingEdge m) (hangingReport m) (accepted m)
+closedReport m = cond (hangingEdge m) (hangingReport m) (refusedWith 0)
 
--- Refusals 4 to 10, tried in their order.
+-- Refusals 4 to 10, tried in their order, or 0.
 unfoldable pub judgedReport : Tables → Report
 judgedReport m =
     cond (badVertices m) (refusedWith 4)
@@ -32,26 +33,26 @@ pub found-at : (m : Tables) (n e : ℕ) → At n e ≡ foundOf m → record { nu
 unfolding foundOf closedReport
 found-at m n e is = go (hangingEdge m) is
   where
-    go : (b : Bool) → At n e ≡ cond b (At (firstHanging m) (firstBelow 6 (hangsAt m (firstHanging m)))) Nothing → record { number = 10; leaves = 0; deepest = 0; sixfold = 0; «record» = n; edge = e } ≡ cond b (hangingReport m) (accepted m)
+    go : (b : Bool) → At n e ≡ cond b (At (firstHanging m) (firstBelow 6 (hangsAt m (firstHanging m)))) Nothing → record { number = 10; leaves = 0; deepest = 0; sixfold = 0; «record» = n; edge = e } ≡ cond b (hangingReport m) (refusedWith 0)
     go true q =
         let record-is : n ≡ firstHanging m = cc in
         let edge-is : e ≡ firstBelow 6 (hangsAt m (firstHanging m)) = cc in
         λ i. record { number = 10; leaves = 0; deepest = 0; sixfold = 0; «record» = record-is i; edge = edge-is i }
     go false q = let z : _≡_ {A = ℕ} 0 1 = cc in absurd (omega arith)
 
-pub found-nothing : (m : Tables) → Nothing ≡ foundOf m → accepted m ≡ closedReport m
+pub found-nothing : (m : Tables) → Nothing ≡ foundOf m → refusedWith 0 ≡ closedReport m
 unfolding foundOf closedReport
 found-nothing m is = go (hangingEdge m) is
   where
-    go : (b : Bool) → Nothing ≡ cond b (At (firstHanging m) (firstBelow 6 (hangsAt m (firstHanging m)))) Nothing → accepted m ≡ cond b (hangingReport m) (accepted m)
+    go : (b : Bool) → Nothing ≡ cond b (At (firstHanging m) (firstBelow 6 (hangsAt m (firstHanging m)))) Nothing → refusedWith 0 ≡ cond b (hangingReport m) (refusedWith 0)
     go true q = let z : _≡_ {A = ℕ} 0 1 = cc in absurd (omega arith)
     go false q = refl
 
 -- ---- the order of the rules
 
 in-order : (m : Tables) (b₄ b₅ b₆ b₇ b₈ b₉ b₁₀ : Bool) →
-    reportOf m (firstBroken (row 4 b₄ ∷ row 5 b₅ ∷ row 6 b₆ ∷ row 7 b₇ ∷ row 8 b₈ ∷ row 9 b₉ ∷ row 10 b₁₀ ∷ []))
-    ≡ cond b₄ (refusedWith 4) (cond b₅ (refusedWith 5) (cond b₆ (refusedWith 6) (cond b₇ (refusedWith 7) (cond b₈ (refusedWith 8) (cond b₉ (refusedWith 9) (cond b₁₀ (hangingReport m) (accepted m)))))))
+    withoutFigures (reportOf m (firstBroken (row 4 b₄ ∷ row 5 b₅ ∷ row 6 b₆ ∷ row 7 b₇ ∷ row 8 b₈ ∷ row 9 b₉ ∷ row 10 b₁₀ ∷ [])))
+    ≡ cond b₄ (refusedWith 4) (cond b₅ (refusedWith 5) (cond b₆ (refusedWith 6) (cond b₇ (refusedWith 7) (cond b₈ (refusedWith 8) (cond b₉ (refusedWith 9) (cond b₁₀ (hangingReport m) (refusedWith 0)))))))
 unfolding reportOf firstBroken
 in-order m true b₅ b₆ b₇ b₈ b₉ b₁₀ = refl
 in-order m false true b₆ b₇ b₈ b₉ b₁₀ = refl
@@ -63,21 +64,21 @@ in-order m false false false false false false true = refl
 in-order m false false false false false false false = refl
 
 module _ (s : List ℕ) where
-  pub check-1 : rightLength s ≡ false → refusedWith 1 ≡ checkOf s
+  pub verdict-1 : rightLength s ≡ false → refusedWith 1 ≡ withoutFigures (checkOf s)
   unfolding checkOf checkNumber rows firstBroken reportOf wrongLength
-  check-1 e = rw e
+  verdict-1 e = rw e
 
-  pub check-2 : rightLength s ≡ true → rightMark s ≡ false → refusedWith 2 ≡ checkOf s
+  pub verdict-2 : rightLength s ≡ true → rightMark s ≡ false → refusedWith 2 ≡ withoutFigures (checkOf s)
   unfolding checkOf checkNumber rows firstBroken reportOf wrongLength wrongMark
-  check-2 e f = rw (e, f)
+  verdict-2 e f = rw (e, f)
 
-  pub check-3 : rightLength s ≡ true → rightMark s ≡ true → wrongCounts limits (headerOf s) ≡ true → refusedWith 3 ≡ checkOf s
+  pub verdict-3 : rightLength s ≡ true → rightMark s ≡ true → wrongCounts limits (headerOf s) ≡ true → refusedWith 3 ≡ withoutFigures (checkOf s)
   unfolding checkOf checkNumber rows firstBroken reportOf wrongLength wrongMark
-  check-3 e f g = rw (e, f, g)
+  verdict-3 e f g = rw (e, f, g)
 
-  pub check-rest : rightLength s ≡ true → rightMark s ≡ true → wrongCounts limits (headerOf s) ≡ false → judgedReport (tablesOf s) ≡ checkOf s
+  pub verdict-rest : rightLength s ≡ true → rightMark s ≡ true → wrongCounts limits (headerOf s) ≡ false → judgedReport (tablesOf s) ≡ withoutFigures (checkOf s)
   unfolding checkOf checkNumber rows firstBroken wrongLength wrongMark judgedReport closedReport tableRows
-  check-rest e f g =
+  verdict-rest e f g =
       let m = tablesOf s in
       rw (e, f, g)
       (sym (in-order m (badVertices m) (badBaseRecords m) (badBaseMarks m) (badBaseFaces m) (unusedVertices m) (badCuts m) (hangingEdge m)))

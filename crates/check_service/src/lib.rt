@@ -9,6 +9,7 @@ ghost use Rattle.check_refusals.specs.Tables.{tables};
 ghost use Rattle.check_refusals.specs.Refusals.{wrongCounts};
 ghost use Rattle.check_refusals.specs.Check.{refusedWith, accepted, checkOf};
 ghost use Rattle.check_refusals.specs.Bounded.{Bounded};
+ghost use Rattle.check_service.specs.Verdict.{withoutFigures};
 ghost use Rattle.check_service.specs.Order.{closedReport, judgedReport};
 
 fn refused(number: u64) -> Report
@@ -46,22 +47,7 @@ fn wrong_counts(most: Limits, h: Header) -> bool
     h.records < h.base_records
 }
 
-// What the tables are accepted with.
-fn accepted_with<'a>(h: Header, l: Layout, base: &'a [u8], grown: &'a [u8]) -> Report
-    requires { ⌜ Bounded h ⌝ }
-    ensures { λ r. ⌜ r ≡ accepted (tables h l (now (base .entry)) (now (grown .entry))) ⌝ }
-{
-    Report {
-        number: 0,
-        leaves: check_figures::leaves_of(h, l, base, grown),
-        deepest: check_figures::deepest_of(h, l, base, grown),
-        sixfold: check_figures::sixfold_within(h, l, base, grown),
-        record: 0,
-        edge: 0,
-    }
-}
-
-// Refusal 10, or acceptance.
+// Refusal 10, or 0.
 fn closed<'a>(h: Header, l: Layout, base: &'a [u8], grown: &'a [u8]) -> Report
     requires { ⌜ Bounded h ⌝ }
     ensures { λ r. ⌜ r ≡ closedReport (tables h l (now (base .entry)) (now (grown .entry))) ⌝ }
@@ -76,11 +62,11 @@ fn closed<'a>(h: Header, l: Layout, base: &'a [u8], grown: &'a [u8]) -> Report
             record: n as u64,
             edge: e as u64,
         },
-        Found::Nothing => accepted_with(h, l, base, grown),
+        Found::Nothing => refused(0),
     }
 }
 
-// Refusals 4 to 10, tried in their order.
+// Refusals 4 to 10, tried in their order, or 0.
 fn judged<'a>(h: Header, l: Layout, base: &'a [u8], grown: &'a [u8]) -> Report
     requires { ⌜ Bounded h ⌝ }
     ensures { λ r. ⌜ r ≡ judgedReport (tables h l (now (base .entry)) (now (grown .entry))) ⌝ }
@@ -106,8 +92,9 @@ fn judged<'a>(h: Header, l: Layout, base: &'a [u8], grown: &'a [u8]) -> Report
     closed(h, l, base, grown)
 }
 
-pub fn check(mesh: &[u8]) -> Report
-    ensures { λ r. ⌜ r ≡ checkOf (now (mesh .entry)) ⌝ }
+// Check's answer without the figures.
+pub fn verdict(mesh: &[u8]) -> Report
+    ensures { λ r. ⌜ r ≡ withoutFigures (checkOf (now (mesh .entry))) ⌝ }
 {
     if !stored_headers::right_length(mesh) {
         return refused(1);
@@ -120,4 +107,30 @@ pub fn check(mesh: &[u8]) -> Report
         return refused(3);
     }
     judged(h, stored::layout_of(h), mesh, mesh)
+}
+
+// What the tables are accepted with.
+fn accepted_with<'a>(h: Header, l: Layout, base: &'a [u8], grown: &'a [u8]) -> Report
+    requires { ⌜ Bounded h ⌝ }
+    ensures { λ r. ⌜ r ≡ accepted (tables h l (now (base .entry)) (now (grown .entry))) ⌝ }
+{
+    Report {
+        number: 0,
+        leaves: check_figures::leaves_of(h, l, base, grown),
+        deepest: check_figures::deepest_of(h, l, base, grown),
+        sixfold: check_figures::sixfold_within(h, l, base, grown),
+        record: 0,
+        edge: 0,
+    }
+}
+
+pub fn check(mesh: &[u8]) -> Report
+    ensures { λ r. ⌜ r ≡ checkOf (now (mesh .entry)) ⌝ }
+{
+    let r = verdict(mesh);
+    if r.number != 0 {
+        return r;
+    }
+    let h = stored_headers::header_of(mesh);
+    accepted_with(h, stored::layout_of(h), mesh, mesh)
 }

@@ -17,7 +17,7 @@ ghost use Rattle.refine_service.specs.Storing.{Assembled, Copied, stored
 fn judged(mesh: &[u8]) -> u32
     ensures { λ r. ⌜ r ≡ checkNumber (now (mesh .entry)) ⌝ }
 {
-    let report = check_service::check(mesh);
+    let report = check_service::verdict(mesh);
     report.number as u32
 }
 

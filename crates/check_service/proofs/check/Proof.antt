@@ -1,30 +1,33 @@
--- `check_service::check`: the rules on the bytes, then the tables.
+-- `check_service::check`: a refusal is whole, and what is accepted gets the figures of its tables.
 -- Assumes nothing.
 use borrow.Author.Needs.{needs}
-use mathlib.Core.Path.{sym, _∙_}
+use mathlib.Core.Path.{_≡_, sym, ap, _∙_}
 use denote.Ref.{now}
-use borrow.Author.Tests.{not-true, not-false}
-use Rattle.check_refusals.specs.Bounded.{bounded}
-use Rattle.check_service.specs.Order.{check-1, check-2, check-3, check-rest}
+use Rattle.check_refusals.specs.declared.Report.{Report}
 use Rattle.check_refusals.specs.Tables.{tablesOf}
+use Rattle.check_refusals.specs.Check.{checkOf}
+use Rattle.check_service.specs.Verdict.{refused-whole, accepted-whole, accepted-bounded}
 use Rattle.check_service.proofs.check.Statement.{statement}
 use Rattle.check_service.proofs.check.Tie as tie
 
 returns : tie.Need-returns
-returns c = c .refused .ensures ∙ check-1 (now (c .before .before .before .before .args .mesh)) (sym (c .before .before .right-length .ensures) ∙ not-true (c .before .before .right-length .result) (c .before .if1 .taken))
+returns c =
+    let mesh = now (c .before .before .before .before .args .mesh) in
+    let number : c .before .before .verdict .result .number ≡ checkOf mesh .number = ap (λ (r : Report). r .number) (c .before .before .verdict .ensures) in
+    c .before .before .verdict .ensures ∙ refused-whole mesh (λ e. c .if1 .taken (number ∙ e))
+
+accepted-with-requires : tie.Need-accepted-with-requires
+accepted-with-requires c κs =
+    let mesh = now (c .before .before .before .before .before .before .args .mesh) in
+    let number : c .before .before .before .before .verdict .result .number ≡ checkOf mesh .number = ap (λ (r : Report). r .number) (c .before .before .before .before .verdict .ensures) in
+    rw (c .before .header-of .ensures) (accepted-bounded mesh (sym number ∙ c .before .before .if1 .left))
 
 returns-2 : tie.Need-returns-2
-returns-2 c = c .refused2 .ensures ∙ check-2 (now (c .before .before .before .before .before .before .args .mesh)) (sym (c .before .before .before .before .right-length .ensures) ∙ not-false (c .before .before .before .before .right-length .result) (c .before .before .before .if1 .left)) (sym (c .before .before .right-mark .ensures) ∙ not-true (c .before .before .right-mark .result) (c .before .if2 .taken))
-
-returns-3 : tie.Need-returns-3
-returns-3 c = c .refused3 .ensures ∙ check-3 (now (c .before .before .before .before .before .before .before .before .before .before .args .mesh)) (sym (c .before .before .before .before .before .before .before .before .right-length .ensures) ∙ not-false (c .before .before .before .before .before .before .before .before .right-length .result) (c .before .before .before .before .before .before .before .if1 .left)) (sym (c .before .before .before .before .before .before .right-mark .ensures) ∙ not-false (c .before .before .before .before .before .before .right-mark .result) (c .before .before .before .before .before .if2 .left)) (rw (← c .before .before .before .before .header-of .ensures, ← c .before .before .before .limits-of-version-1 .ensures) (sym (c .before .before .wrong-counts .ensures) ∙ c .before .if3 .taken))
-
-judged-requires : tie.Need-judged-requires
-judged-requires c κs = bounded (c .before .before .before .before .header-of .result) (rw (← c .before .before .before .limits-of-version-1 .ensures) (sym (c .before .before .wrong-counts .ensures) ∙ c .before .if3 .left))
-
-returns-4 : tie.Need-returns-4
 unfolding tablesOf
-returns-4 c = rw (c .judged .ensures, c .before .layout-of .ensures, c .before .before .before .before .before .header-of .ensures) (check-rest (now (c .before .before .before .before .before .before .before .before .before .before .before .args .mesh)) (sym (c .before .before .before .before .before .before .before .before .before .right-length .ensures) ∙ not-false (c .before .before .before .before .before .before .before .before .before .right-length .result) (c .before .before .before .before .before .before .before .before .if1 .left)) (sym (c .before .before .before .before .before .before .before .right-mark .ensures) ∙ not-false (c .before .before .before .before .before .before .before .right-mark .result) (c .before .before .before .before .before .before .if2 .left)) (rw (← c .before .before .before .before .before .header-of .ensures, ← c .before .before .before .before .limits-of-version-1 .ensures) (sym (c .before .before .before .wrong-counts .ensures) ∙ c .before .before .if3 .left)))
+returns-2 c =
+    let mesh = now (c .before .before .before .before .before .before .before .args .mesh) in
+    let number : c .before .before .before .before .before .verdict .result .number ≡ checkOf mesh .number = ap (λ (r : Report). r .number) (c .before .before .before .before .before .verdict .ensures) in
+    rw (c .accepted-with .ensures, c .before .layout-of .ensures, c .before .before .header-of .ensures) (accepted-whole mesh (sym number ∙ c .before .before .before .if1 .left))
 
 pub check-spec : {M : Type 1} → statement M
-check-spec = tie.close (tie.spec (λ c κs. search needs) (λ c κs. search needs) returns (λ c κs. search needs) (λ c κs. search needs) returns-2 (λ c κs. search needs) (λ c κs. search needs) (λ c κs. search needs) (λ c κs. search needs) returns-3 (λ c κs. search needs) judged-requires returns-4)
+check-spec = tie.close (tie.spec (λ c κs. search needs) returns (λ c κs. search needs) (λ c κs. search needs) accepted-with-requires returns-2)

@@ -1,4 +1,4 @@
--- `refine_service::judged`: the number that check returns is at most 10.
+-- `refine_service::judged`: the number of the verdict is check's, at most 10.
 -- Assumes nothing.
 use borrow.Author.Needs.{needs}
 use mathlib.Core.Path.{_≡_, ap, _∙_}
@@ -13,11 +13,11 @@ use Rattle.refine_service.proofs.judged.Tie as tie
 cast-result : tie.Need-cast-result
 cast-result c =
     let mesh = now (c .before .before .before .args .mesh) in
-    let is : c .before .check .result .number ≡ checkNumber mesh = ap (λ (r : Report). r .number) (c .before .check .ensures) ∙ report-number mesh in
+    let is : c .before .verdict .result .number ≡ checkNumber mesh = ap (λ (r : Report). r .number) (c .before .verdict .ensures) ∙ report-number mesh in
     omega (arith, check-small mesh)
 
 returns : tie.Need-returns
-returns c = let mesh = now (c .before .before .before .args .mesh) in ap (λ (r : Report). r .number) (c .before .check .ensures) ∙ report-number mesh
+returns c = let mesh = now (c .before .before .before .args .mesh) in ap (λ (r : Report). r .number) (c .before .verdict .ensures) ∙ report-number mesh
 
 pub judged-spec : {M : Type 1} → statement M
 judged-spec = tie.close (tie.spec (λ c κs. search needs) cast-result returns)

@@ -1,0 +1,47 @@
+-- Check's answer without the figures, and what it leaves to add.
+use mathlib.Core.Path.{_≡_, refl, sym, _∙_}
+use mathlib.Core.Bool.{Bool, true, false, cond}
+use mathlib.Core.Logic.{_≢_}
+use mathlib.Core.List.{List}
+use Prim.Native.Nat.{ℕ}
+use native.Mathlib.Omega.{arith}
+use lib.Dec.{eqb}
+use borrow.Author.Tests.{ne-eqb}
+use Rattle.stored.specs.Layout.{limits, headerOf}
+use Rattle.check_refusals.specs.Tables.{tablesOf}
+use Rattle.check_refusals.specs.declared.Report.{Report}
+use Rattle.check_refusals.specs.Refusals.{wrongLength, wrongMark, wrongCounts}
+use Rattle.check_refusals.specs.Bounded.{Bounded, bounded}
+use Rattle.check_refusals.specs.Rows.{report-number}
+use Rattle.check_refusals.specs.Check.{rows, tableRows, firstBroken, checkNumber, refusedWith, accepted, hangingReport, reportOf, checkOf}
+
+-- The number, record and edge of a report, and 0 for leaves, deepest and sixfold.
+abbrev pub withoutFigures : Report → Report
+withoutFigures r = record { number = r .number; leaves = 0; deepest = 0; sixfold = 0; «record» = r .«record»; edge = r .edge }
+
+module _ (s : List ℕ) where
+  -- A refusal has none.
+  pub refused-whole : checkOf s .number ≢ 0 → withoutFigures (checkOf s) ≡ checkOf s
+  unfolding checkOf reportOf
+  refused-whole n = rw (ne-eqb (checkNumber s) 0 (λ e. n (report-number s ∙ e))) (go (eqb (checkNumber s) 10))
+    where
+      go : (b : Bool) → let r = cond b (hangingReport (tablesOf s)) (refusedWith (checkNumber s)) in withoutFigures r ≡ r
+      go true = refl
+      go false = refl
+
+  -- What is accepted is reported with the figures of its tables.
+  pub accepted-whole : checkOf s .number ≡ 0 → accepted (tablesOf s) ≡ checkOf s
+  unfolding checkOf reportOf
+  accepted-whole e = rw (sym (report-number s) ∙ e)
+
+  -- Its counts are within their bounds.
+  pub accepted-bounded : checkOf s .number ≡ 0 → Bounded (headerOf s)
+  unfolding checkNumber rows firstBroken
+  accepted-bounded e =
+      bounded (headerOf s) (go (wrongLength s) (wrongMark s) (wrongCounts limits (headerOf s)) (sym (report-number s) ∙ e))
+    where
+      go : (a b c : Bool) → cond a 1 (cond b 2 (cond c 3 (firstBroken (tableRows (tablesOf s))))) ≡ 0 → c ≡ false
+      go true b c q = absurd (omega arith)
+      go false true c q = absurd (omega arith)
+      go false false true q = absurd (omega arith)
+      go false false false q = refl
