@@ -85,9 +85,7 @@ fn is_last<'a>(l: Layout, base: &'a [u8], grown: &'a [u8], selection: &'a [u8], 
     ensures { λ r. ⌜ r ≡ eqb (recordIn l (now (base .entry)) (now (grown .entry)) (namedIn (now (selection .entry)) i) .piece .generation) lastGeneration ⌝ }
 {
     let n = stored_selections::named_in(selection, i) as usize;
-    let record = stored_entries::record_in(l, base, grown, n);
-    let p = record.piece;
-    p.generation == piece::LAST_GENERATION
+    stored_entries::generation_in(l, base, grown, n) == piece::LAST_GENERATION
 }
 
 // Refusal 17.
