@@ -74,7 +74,7 @@ module _ (l : Layout) (s : Slices) (n : ℕ) where
   cut-one-more = cut-header (λ h. (h .vertices ≡ s .header .vertices) ⊎ (h .vertices ≡ suc (s .header .vertices))) (inl refl) (inl refl) (inr (omega arith))
 
 module _ (most : Limits) (l : Layout) where
-  turn-since : (chosen : Bool) (n : ℕ) (s : Slices) → Since (s .header) (turnPut most l chosen n s .header)
+  pub turn-since : (chosen : Bool) (n : ℕ) (s : Slices) → Since (s .header) (turnPut most l chosen n s .header)
   unfolding turnPut
   turn-since chosen n s = go (chosen && not (exceeds most (s .header)))
     where
@@ -83,7 +83,7 @@ module _ (most : Limits) (l : Layout) where
       go false = since-itself (s .header)
 
   -- The header that a pass began with, and the one after n of its turns.
-  turns-since : (choose : Slices → ℕ → Bool) (start : Slices) (n : ℕ) → Since (start .header) (turnsPut most l choose n start .header)
+  pub turns-since : (choose : Slices → ℕ → Bool) (start : Slices) (n : ℕ) → Since (start .header) (turnsPut most l choose n start .header)
   unfolding turnsPut
   turns-since choose start zero = since-itself (start .header)
   turns-since choose start (suc n) =
@@ -143,15 +143,12 @@ module _ (l : Layout) (s : Slices) (heads nexts : List ℕ) (k : Linked (tablesI
   unfolding cutPut
   cut-found n ends these w is t cut = cut ∙ ap (cutWith l s n) (found-is ends w is ∙ ap (vertexWith (tablesIn l s)) these)
 
-  -- What hangs is found along the links: with the header that the tables had when a pass began, and with the one that they have.
+  -- What hangs is found along the links, with the header that the tables had when a pass began.
   pub hangs-since : (h : Header) → Since h (s .header) → (n : ℕ) (r : Bool) → r ≡ leafHangsAlong (tables h l (s .base) (s .grown)) heads nexts n → r ≡ leafHangs (tables h l (s .base) (s .grown)) n
   hangs-since h kept n r is =
       let m : Tables = tables h l (s .base) (s .grown) in
       is
       ∙ leaf-hangs-along m (s .header .vertices) heads nexts (pairs-same (tablesIn l s) m (s .header .vertices) heads nexts (kept .base) (λ u b. refl) (k .chain)) (k .keys) (kept .vertices) n
-
-  pub hangs-now : (n : ℕ) (r : Bool) → r ≡ leafHangsAlong (tablesIn l s) heads nexts n → r ≡ leafHangs (tablesIn l s) n
-  hangs-now n r is = hangs-since (s .header) (since-itself (s .header)) n r is
 
 module _ (most : Limits) (l : Layout) (s : Slices) (heads nexts : List ℕ) (k : AtWork most l s heads nexts) (few : exceeds most (s .header) ≡ false) (n : ℕ) (there : n < s .header .records)
     (t : Slices) (is : t ≡ cutPut l s n) where

@@ -1,6 +1,6 @@
 -- The passes in two slices, turn by turn: from what each call leaves to what the definition says.
 use mathlib.Core.Path.{_≡_, refl, sym, ap, _∙_}
-use mathlib.Core.Bool.{Bool, true, false, not}
+use mathlib.Core.Bool.{Bool, true, false, not, _&&_}
 use Prim.Native.Nat.{ℕ, zero, suc, _+_, _-_, _*_, _≤_, _<_}
 use native.Mathlib.Numerals.{add-one}
 use native.Mathlib.Omega.{arith}
@@ -52,28 +52,23 @@ module _ (most : Limits) (l : Layout) where
 
   -- ---- the closing
 
-  pub closing-rests : (passes : ℕ) (s : Slices) (hangs : Bool) → hangs ≡ hangingEdge (tablesIn l s) → hangs ≡ false → closingPut most l passes s ≡ s
+  pub closing-rests : (passes : ℕ) (s : Slices) → (hangingEdge (tablesIn l s) && not (exceeds most (s .header))) ≡ false → closingPut most l passes s ≡ s
   unfolding closingPut
-  closing-rests zero s hangs is e = refl
-  closing-rests (suc passes) s hangs is e = rw (← is, e)
-
-  pub closing-beyond : (passes : ℕ) (s : Slices) → exceeds most (s .header) ≡ true → closingPut most l passes s ≡ s
-  unfolding closingPut
-  closing-beyond zero s e = refl
-  closing-beyond (suc passes) s e = rw (e, and-false (hangingEdge (tablesIn l s)))
+  closing-rests zero s e = refl
+  closing-rests (suc passes) s e = rw e
 
   pub closing-out : (passes : ℕ) (s : Slices) → passes ≤ 0 → closingPut most l passes s ≡ s
   unfolding closingPut
   closing-out zero s e = refl
   closing-out (suc passes) s e = absurd (omega arith)
 
-  pub closing-next : (passes : ℕ) (s t : Slices) (hangs : Bool) → 0 < passes → hangs ≡ hangingEdge (tablesIn l s) → hangs ≡ true → exceeds most (s .header) ≡ false → t ≡ passPut most l (hangsSince l s) s →
+  pub closing-next : (passes : ℕ) (s t : Slices) → 0 < passes → (hangingEdge (tablesIn l s) && not (exceeds most (s .header))) ≡ true → t ≡ passPut most l (hangsSince l s) s →
       closingPut most l (passes - 1) t ≡ closingPut most l passes s
   unfolding closingPut
-  closing-next zero s t hangs some found h e is = absurd (omega arith)
-  closing-next (suc passes) s t hangs some found h e is =
+  closing-next zero s t some e is = absurd (omega arith)
+  closing-next (suc passes) s t some e is =
       let less : suc passes - 1 ≡ passes = omega arith in
-      rw (← found, h, e) (ap (λ (k : ℕ). closingPut most l k t) less ∙ ap (closingPut most l passes) is)
+      rw e (ap (λ (k : ℕ). closingPut most l k t) less ∙ ap (closingPut most l passes) is)
 
   -- ---- all passes
 

@@ -10,7 +10,6 @@ ghost use Prim.Native.Nat.{_<_};
 ghost use Rattle.laws.specs.Links.{Chain};
 ghost use Rattle.stored.specs.Layout.{namedIn};
 ghost use Rattle.check_refusals.specs.Tables.{tables};
-ghost use Rattle.check_refusals.specs.Refusals.{hangingEdge};
 ghost use Rattle.check_parents.specs.Pairs.{keyOf};
 ghost use Rattle.refine_selection.specs.Selected.{isNamed};
 ghost use Rattle.refine_cut.specs.Slices.{slices, cutPut};
@@ -143,29 +142,7 @@ fn pass_hanging(
     with
 }
 
-fn any_hangs<'a>(
-    h: Header,
-    l: Layout,
-    base: &'a [u8],
-    grown: &'a [u8],
-    heads: &'a [u16],
-    nexts: &'a [u16],
-) -> bool
-    requires { ⌜ Linked (tables h l (now base) (now grown)) (now heads) (now nexts) ⌝ }
-    ensures { λ r. ⌜ r ≡ hangingEdge (tables h l (now (base .entry)) (now (grown .entry))) ⌝ }
-{
-    let count = h.records as usize;
-    let mut n: usize = 0;
-    while n < count {
-        if check_hanging::leaf_hangs(h, l, base, grown, heads, nexts, n) {
-            return true;
-        }
-        n += 1;
-    }
-    false
-}
-
-// The later passes, until none hangs or the tables exceed their limits.
+// The later passes, until one appends no record: then none hangs or the tables exceed their limits.
 fn close(
     most: Limits,
     h: Header,
@@ -181,13 +158,11 @@ fn close(
     let mut with = h;
     let mut left = most.records;
     while 0 < left {
-        if !any_hangs(with, l, base, grown, heads, nexts) {
-            return with;
-        }
-        if is_beyond(most, with) {
-            return with;
-        }
+        let records = with.records;
         with = pass_hanging(most, with, l, base, grown, heads, nexts);
+        if with.records == records {
+            return with;
+        }
         left -= 1;
     }
     with
