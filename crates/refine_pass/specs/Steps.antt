@@ -17,19 +17,15 @@ use Rattle.refine_pass.specs.Passes.{exceeds}
 use Rattle.refine_pass.specs.Puts.{turnPut, turnsPut, passPut, hangsSince, closingPut, refinedPut, work, canWork, refinedWithin}
 
 module _ (most : Limits) (l : Layout) where
-  -- ---- a turn
+  -- ---- the turn of a record that is chosen
 
-  pub turn-not-chosen : (chosen : Bool) (n : ℕ) (s : Slices) → chosen ≡ false → s ≡ turnPut most l chosen n s
+  pub turn-beyond : (n : ℕ) (s : Slices) → exceeds most (s .header) ≡ true → s ≡ turnPut most l true n s
   unfolding turnPut
-  turn-not-chosen chosen n s e = rw e
+  turn-beyond n s e = rw e
 
-  pub turn-beyond : (chosen : Bool) (n : ℕ) (s : Slices) → exceeds most (s .header) ≡ true → s ≡ turnPut most l chosen n s
+  pub turn-cut : (n : ℕ) (s t : Slices) → exceeds most (s .header) ≡ false → t ≡ cutPut l s n → t ≡ turnPut most l true n s
   unfolding turnPut
-  turn-beyond chosen n s e = rw (e, and-false chosen)
-
-  pub turn-cut : (chosen : Bool) (n : ℕ) (s t : Slices) → chosen ≡ true → exceeds most (s .header) ≡ false → t ≡ cutPut l s n → t ≡ turnPut most l chosen n s
-  unfolding turnPut
-  turn-cut chosen n s t c e is = rw (c, e) is
+  turn-cut n s t e is = rw e is
 
   -- ---- a pass
 
@@ -38,13 +34,21 @@ module _ (most : Limits) (l : Layout) where
     unfolding turnsPut
     turns-none = refl
 
-    pub turns-next : (n : ℕ) (s t : Slices) (chosen : Bool) → s ≡ turnsPut most l choose n start → chosen ≡ choose s n → t ≡ turnPut most l chosen n s → t ≡ turnsPut most l choose (n + 1) start
+    turns-more : (n : ℕ) (s t : Slices) (chosen : Bool) → s ≡ turnsPut most l choose n start → choose s n ≡ chosen → t ≡ turnPut most l chosen n s → t ≡ turnsPut most l choose (n + 1) start
     unfolding turnsPut
-    turns-next n s t chosen so is turned =
+    turns-more n s t chosen so is turned =
         turned
-        ∙ ap (λ (b : Bool). turnPut most l b n s) is
+        ∙ ap (λ (b : Bool). turnPut most l b n s) (sym is)
         ∙ ap (λ (x : Slices). turnPut most l (choose x n) n x) so
         ∙ ap (λ (k : ℕ). turnsPut most l choose k start) (sym (add-one n))
+
+    -- A record that is not chosen, and one that is.
+    pub turns-past : (n : ℕ) (s : Slices) → s ≡ turnsPut most l choose n start → choose s n ≡ false → s ≡ turnsPut most l choose (n + 1) start
+    unfolding turnPut
+    turns-past n s so not-chosen = turns-more n s s false so not-chosen refl
+
+    pub turns-next : (n : ℕ) (s t : Slices) → s ≡ turnsPut most l choose n start → choose s n ≡ true → t ≡ turnPut most l true n s → t ≡ turnsPut most l choose (n + 1) start
+    turns-next n s t so chosen turned = turns-more n s t true so chosen turned
 
     pub turns-all : (n : ℕ) (s : Slices) → n ≤ start .header .records → start .header .records ≤ n → s ≡ turnsPut most l choose n start → s ≡ passPut most l choose start
     unfolding passPut

@@ -6,6 +6,7 @@ use stored::Header;
 use stored::Layout;
 use stored::Limits;
 ghost use mathlib.Core.Path.{_≡_};
+ghost use mathlib.Core.Bool.{true};
 ghost use Prim.Native.Nat.{_<_};
 ghost use Rattle.laws.specs.Links.{Chain};
 ghost use Rattle.stored.specs.Layout.{namedIn};
@@ -63,6 +64,7 @@ fn link_fresh<'a>(
     }
 }
 
+// The turn of a record that is chosen.
 fn turn(
     most: Limits,
     h: Header,
@@ -71,17 +73,13 @@ fn turn(
     grown: &mut [u8],
     heads: &mut [u16],
     nexts: &mut [u16],
-    chosen: bool,
     n: usize,
 ) -> Header
     requires { ⌜ AtWork most l (slices h (now base) (now grown)) (now heads) (now nexts) ⌝ }
     requires { ⌜ n < h .records ⌝ }
-    ensures { λ r. ⌜ slices r (now (base .exit)) (now (grown .exit)) ≡ turnPut most l chosen n (slices h (now (base .entry)) (now (grown .entry))) ⌝ }
+    ensures { λ r. ⌜ slices r (now (base .exit)) (now (grown .exit)) ≡ turnPut most l true n (slices h (now (base .entry)) (now (grown .entry))) ⌝ }
     ensures { λ r. ⌜ AtWork most l (slices r (now (base .exit)) (now (grown .exit))) (now (heads .exit)) (now (nexts .exit)) ⌝ }
 {
-    if !chosen {
-        return h;
-    }
     if is_beyond(most, h) {
         return h;
     }
@@ -110,8 +108,11 @@ fn pass_selected(
     let mut with = h;
     let mut n: usize = 0;
     while n < records {
-        let chosen = refine_selection::is_named(selection, count, n);
-        with = turn(most, with, l, base, grown, heads, nexts, chosen, n);
+        if !refine_selection::is_named(selection, count, n) {
+            n += 1;
+            continue;
+        }
+        with = turn(most, with, l, base, grown, heads, nexts, n);
         n += 1;
     }
     with
@@ -135,8 +136,11 @@ fn pass_hanging(
     let mut with = h;
     let mut n: usize = 0;
     while n < records {
-        let chosen = check_hanging::leaf_hangs(h, l, base, grown, heads, nexts, n);
-        with = turn(most, with, l, base, grown, heads, nexts, chosen, n);
+        if !check_hanging::leaf_hangs(h, l, base, grown, heads, nexts, n) {
+            n += 1;
+            continue;
+        }
+        with = turn(most, with, l, base, grown, heads, nexts, n);
         n += 1;
     }
     with

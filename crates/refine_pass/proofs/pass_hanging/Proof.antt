@@ -2,13 +2,14 @@
 -- Assumes nothing.
 use borrow.Author.Needs.{needs}
 use Prim.Native.Nat.{_≤_, _-_}
-use mathlib.Core.Path.{_≡_, refl, _∙_}
+use mathlib.Core.Path.{_≡_, refl, sym, _∙_}
 use native.Mathlib.Omega.{arith}
 use lib.ListN.{length}
 use denote.Ref.{now}
+use borrow.Author.Tests.{not-true, not-false}
 use Rattle.refine_cut.specs.Slices.{slices}
 use Rattle.refine_pass.specs.Puts.{turnsPut, hangsSince}
-use Rattle.refine_pass.specs.Steps.{turns-none, turns-next, turns-all}
+use Rattle.refine_pass.specs.Steps.{turns-none, turns-past, turns-next, turns-all}
 use Rattle.refine_pass.specs.Linked.{AtWork, since, hangs-since}
 use Rattle.refine_pass.proofs.pass_hanging.Statement.{statement}
 use Rattle.refine_pass.proofs.pass_hanging.Tie as tie
@@ -22,27 +23,47 @@ abbrev μ-loop : tie.MeasureT-loop
 loop-holds : tie.Need-loop-holds Inv-loop μ-loop
 loop-holds c = let a = c .before .before .before .before .before .args in (omega arith, turns-none (a .most) (a .l) (hangsSince (a .l) (slices (a .h) (now (a .base)) (now (a .grown)))) (slices (a .h) (now (a .base)) (now (a .grown))), c .before .before .before .before .before .pre, refl, refl, refl, refl)
 
-turn-requires : tie.Need-turn-requires Inv-loop μ-loop
-turn-requires c κs =
-    let a = c .before .before .before .before .before .before .before .before .before .before .before .before .before .before .before .before .args in
-    let was = c .before .before .before .before .before .before .before .before .before .before .loop in
-    let kept = since (a .most) (a .l) (hangsSince (a .l) (slices (a .h) (now (a .base)) (now (a .grown)))) (slices (a .h) (now (a .base)) (now (a .grown))) (was .n) (slices (was .with) (was .base) (was .grown)) (was .inv .1) in
-    (was .inv .2, omega (arith, kept .records, c .before .before .before .before .before .before .before .before .before .loop-test .taken))
-
 add-n : tie.Need-add-n Inv-loop μ-loop
-add-n c = record { fits = omega (arith, c .before .before .before .before .before .before .before .before .before .before .before .before .before .before .before .before .before .before .loop-test .taken, c .before .before .before .before .before .before .before .before .before .before .before .before .before .before .before .before .before .before .before .before .struct-known .given) }
+add-n c = record { fits = omega (arith, c .before .before .before .before .before .before .loop-test .taken, c .before .before .before .before .before .before .before .before .struct-known .given) }
 
 loop-again : tie.Need-loop-again Inv-loop μ-loop
 loop-again c =
-    let a = c .before .before .before .before .before .before .before .before .before .before .before .before .before .before .before .before .before .before .before .before .before .before .before .before .before .args in
-    let turn = c .before .before .before .before .before .before .before .before .turn in
-    let hangs = c .before .before .before .before .before .before .before .before .before .before .before .before .before .leaf-hangs in
-    let was = c .before .before .before .before .before .before .before .before .before .before .before .before .before .before .before .before .before .before .before .loop in
+    let a = c .before .before .before .before .before .before .before .before .before .before .before .before .before .args in
+    let was = c .before .before .before .before .before .before .before .loop in
+    let hangs = c .before .leaf-hangs in
     let start = slices (a .h) (now (a .base)) (now (a .grown)) in
     let kept = since (a .most) (a .l) (hangsSince (a .l) start) start (was .n) (slices (was .with) (was .base) (was .grown)) (was .inv .1) in
     let chosen = hangs-since (a .l) (slices (was .with) (was .base) (was .grown)) (was .heads) (was .nexts) (was .inv .2 .linked) (a .h) kept (was .n) (hangs .result) (hangs .ensures) in (
-      omega (arith, c .before .before .before .before .before .before .before .before .before .before .before .before .before .before .before .before .before .before .loop-test .taken),
-      turns-next (a .most) (a .l) (hangsSince (a .l) start) start (was .n) (slices (was .with) (was .base) (was .grown)) (slices (turn .result) (turn .last .1 .1 .1 .0) (turn .last .1 .1 .1 .1 .0)) (hangs .result) (was .inv .1) chosen (turn .ensures .0),
+      omega (arith, c .before .before .before .before .before .before .loop-test .taken),
+      turns-past (a .most) (a .l) (hangsSince (a .l) start) start (was .n) (slices (was .with) (was .base) (was .grown)) (was .inv .1) (sym chosen ∙ not-true (hangs .result) (c .if1 .taken)),
+      was .inv .2,
+      was .inv .3,
+      was .inv .4,
+      was .inv .5,
+      was .inv .6,
+    )
+
+turn-requires : tie.Need-turn-requires Inv-loop μ-loop
+turn-requires c κs =
+    let a = c .before .before .before .before .before .before .before .before .before .before .before .before .before .before .before .before .before .args in
+    let was = c .before .before .before .before .before .before .before .before .before .before .before .loop in
+    let kept = since (a .most) (a .l) (hangsSince (a .l) (slices (a .h) (now (a .base)) (now (a .grown)))) (slices (a .h) (now (a .base)) (now (a .grown))) (was .n) (slices (was .with) (was .base) (was .grown)) (was .inv .1) in
+    (was .inv .2, omega (arith, kept .records, c .before .before .before .before .before .before .before .before .before .before .loop-test .taken))
+
+add-n-2 : tie.Need-add-n-2 Inv-loop μ-loop
+add-n-2 c = record { fits = omega (arith, c .before .before .before .before .before .before .before .before .before .before .before .before .before .before .before .before .before .before .before .loop-test .taken, c .before .before .before .before .before .before .before .before .before .before .before .before .before .before .before .before .before .before .before .before .before .struct-known .given) }
+
+loop-again-2 : tie.Need-loop-again-2 Inv-loop μ-loop
+loop-again-2 c =
+    let a = c .before .before .before .before .before .before .before .before .before .before .before .before .before .before .before .before .before .before .before .before .before .before .before .before .before .before .args in
+    let turn = c .before .before .before .before .before .before .before .before .turn in
+    let hangs = c .before .before .before .before .before .before .before .before .before .before .before .before .before .before .leaf-hangs in
+    let was = c .before .before .before .before .before .before .before .before .before .before .before .before .before .before .before .before .before .before .before .before .loop in
+    let start = slices (a .h) (now (a .base)) (now (a .grown)) in
+    let kept = since (a .most) (a .l) (hangsSince (a .l) start) start (was .n) (slices (was .with) (was .base) (was .grown)) (was .inv .1) in
+    let chosen = hangs-since (a .l) (slices (was .with) (was .base) (was .grown)) (was .heads) (was .nexts) (was .inv .2 .linked) (a .h) kept (was .n) (hangs .result) (hangs .ensures) in (
+      omega (arith, c .before .before .before .before .before .before .before .before .before .before .before .before .before .before .before .before .before .before .before .loop-test .taken),
+      turns-next (a .most) (a .l) (hangsSince (a .l) start) start (was .n) (slices (was .with) (was .base) (was .grown)) (slices (turn .result) (turn .last .1 .1 .1 .0) (turn .last .1 .1 .1 .1 .0)) (was .inv .1) (sym chosen ∙ not-false (hangs .result) (c .before .before .before .before .before .before .before .before .before .before .before .before .before .if1 .left)) (turn .ensures .0),
       turn .ensures .1,
       c .before .before .before .before .before .before .before .base .given ∙ was .inv .3,
       c .before .before .before .before .before .grown .given ∙ was .inv .4,
@@ -70,4 +91,4 @@ returns c =
     (turns-all (a .most) (a .l) (hangsSince (a .l) start) start (was .n) (slices (was .with) (was .base) (was .grown)) (was .inv .0) (c .loop-test .left) (was .inv .1), was .inv .2)
 
 pub pass-hanging-spec : {M : Type 1} → statement M
-pass-hanging-spec = tie.close (tie.spec Inv-loop μ-loop (λ c. search needs) loop-holds (λ c κs. search needs) turn-requires add-n (λ c. search needs) loop-again same-length same-length-2 same-length-3 same-length-4 returns)
+pass-hanging-spec = tie.close (tie.spec Inv-loop μ-loop (λ c. search needs) loop-holds (λ c κs. search needs) add-n (λ c. search needs) loop-again turn-requires add-n-2 (λ c. search needs) loop-again-2 same-length same-length-2 same-length-3 same-length-4 returns)

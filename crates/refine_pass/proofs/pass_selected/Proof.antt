@@ -2,15 +2,16 @@
 -- Assumes nothing.
 use borrow.Author.Needs.{needs}
 use Prim.Native.Nat.{_≤_, _-_}
-use mathlib.Core.Path.{_≡_, refl, _∙_}
+use mathlib.Core.Path.{_≡_, refl, sym, _∙_}
 use native.Mathlib.Omega.{arith}
 use lib.ListN.{length}
 use denote.Ref.{now}
+use borrow.Author.Tests.{not-true, not-false}
 use Rattle.stored.specs.Layout.{namedIn}
 use Rattle.refine_selection.specs.Selected.{isNamed}
 use Rattle.refine_cut.specs.Slices.{slices}
 use Rattle.refine_pass.specs.Puts.{turnsPut}
-use Rattle.refine_pass.specs.Steps.{turns-none, turns-next, turns-all}
+use Rattle.refine_pass.specs.Steps.{turns-none, turns-past, turns-next, turns-all}
 use Rattle.refine_pass.specs.Linked.{AtWork, since}
 use Rattle.refine_pass.proofs.pass_selected.Statement.{statement}
 use Rattle.refine_pass.proofs.pass_selected.Tie as tie
@@ -24,23 +25,41 @@ abbrev μ-loop : tie.MeasureT-loop
 loop-holds : tie.Need-loop-holds Inv-loop μ-loop
 loop-holds c = let a = c .before .before .before .before .before .before .args in (omega arith, turns-none (a .most) (a .l) (λ t. isNamed (a .count) (namedIn (now (a .selection)))) (slices (a .h) (now (a .base)) (now (a .grown))), c .before .before .before .before .before .before .pre, refl, refl, refl, refl)
 
-turn-requires : tie.Need-turn-requires Inv-loop μ-loop
-turn-requires c κs =
-    let a = c .before .before .before .before .before .before .before .before .before .before .before .before .before .args in
-    let was = c .before .before .before .before .before .before .loop in
-    let kept = since (a .most) (a .l) (λ t. isNamed (a .count) (namedIn (now (a .selection)))) (slices (a .h) (now (a .base)) (now (a .grown))) (was .n) (slices (was .with) (was .base) (was .grown)) (was .inv .1) in
-    (was .inv .2, omega (arith, kept .records, c .before .before .before .before .before .loop-test .taken))
-
 add-n : tie.Need-add-n Inv-loop μ-loop
-add-n c = record { fits = omega (arith, c .before .before .before .before .before .before .before .before .before .before .before .before .before .before .loop-test .taken, c .before .before .before .before .before .before .before .before .before .before .before .before .before .before .before .before .struct-known .given) }
+add-n c = record { fits = omega (arith, c .before .before .loop-test .taken, c .before .before .before .before .struct-known .given) }
 
 loop-again : tie.Need-loop-again Inv-loop μ-loop
 loop-again c =
-    let a = c .before .before .before .before .before .before .before .before .before .before .before .before .before .before .before .before .before .before .before .before .before .before .args in
+    let a = c .before .before .before .before .before .before .before .before .before .before .args in
+    let was = c .before .before .before .loop in
+    let named = c .before .is-named in (
+      omega (arith, c .before .before .loop-test .taken),
+      turns-past (a .most) (a .l) (λ t. isNamed (a .count) (namedIn (now (a .selection)))) (slices (a .h) (now (a .base)) (now (a .grown))) (was .n) (slices (was .with) (was .base) (was .grown)) (was .inv .1) (sym (named .ensures) ∙ not-true (named .result) (c .if1 .taken)),
+      was .inv .2,
+      was .inv .3,
+      was .inv .4,
+      was .inv .5,
+      was .inv .6,
+    )
+
+turn-requires : tie.Need-turn-requires Inv-loop μ-loop
+turn-requires c κs =
+    let a = c .before .before .before .before .before .before .before .before .before .before .before .before .before .before .args in
+    let was = c .before .before .before .before .before .before .before .loop in
+    let kept = since (a .most) (a .l) (λ t. isNamed (a .count) (namedIn (now (a .selection)))) (slices (a .h) (now (a .base)) (now (a .grown))) (was .n) (slices (was .with) (was .base) (was .grown)) (was .inv .1) in
+    (was .inv .2, omega (arith, kept .records, c .before .before .before .before .before .before .loop-test .taken))
+
+add-n-2 : tie.Need-add-n-2 Inv-loop μ-loop
+add-n-2 c = record { fits = omega (arith, c .before .before .before .before .before .before .before .before .before .before .before .before .before .before .before .loop-test .taken, c .before .before .before .before .before .before .before .before .before .before .before .before .before .before .before .before .before .struct-known .given) }
+
+loop-again-2 : tie.Need-loop-again-2 Inv-loop μ-loop
+loop-again-2 c =
+    let a = c .before .before .before .before .before .before .before .before .before .before .before .before .before .before .before .before .before .before .before .before .before .before .before .args in
     let turn = c .before .before .before .before .before .before .before .before .turn in
-    let was = c .before .before .before .before .before .before .before .before .before .before .before .before .before .before .before .loop in (
-      omega (arith, c .before .before .before .before .before .before .before .before .before .before .before .before .before .before .loop-test .taken),
-      turns-next (a .most) (a .l) (λ t. isNamed (a .count) (namedIn (now (a .selection)))) (slices (a .h) (now (a .base)) (now (a .grown))) (was .n) (slices (was .with) (was .base) (was .grown)) (slices (turn .result) (turn .last .1 .1 .1 .0) (turn .last .1 .1 .1 .1 .0)) (c .before .before .before .before .before .before .before .before .before .before .before .before .before .is-named .result) (was .inv .1) (c .before .before .before .before .before .before .before .before .before .before .before .before .before .is-named .ensures) (turn .ensures .0),
+    let named = c .before .before .before .before .before .before .before .before .before .before .before .before .before .before .is-named in
+    let was = c .before .before .before .before .before .before .before .before .before .before .before .before .before .before .before .before .loop in (
+      omega (arith, c .before .before .before .before .before .before .before .before .before .before .before .before .before .before .before .loop-test .taken),
+      turns-next (a .most) (a .l) (λ t. isNamed (a .count) (namedIn (now (a .selection)))) (slices (a .h) (now (a .base)) (now (a .grown))) (was .n) (slices (was .with) (was .base) (was .grown)) (slices (turn .result) (turn .last .1 .1 .1 .0) (turn .last .1 .1 .1 .1 .0)) (was .inv .1) (sym (named .ensures) ∙ not-false (named .result) (c .before .before .before .before .before .before .before .before .before .before .before .before .before .if1 .left)) (turn .ensures .0),
       turn .ensures .1,
       c .before .before .before .before .before .before .before .base .given ∙ was .inv .3,
       c .before .before .before .before .before .grown .given ∙ was .inv .4,
@@ -67,4 +86,4 @@ returns c =
     (turns-all (a .most) (a .l) (λ t. isNamed (a .count) (namedIn (now (a .selection)))) (slices (a .h) (now (a .base)) (now (a .grown))) (was .n) (slices (was .with) (was .base) (was .grown)) (was .inv .0) (c .loop-test .left) (was .inv .1), was .inv .2)
 
 pub pass-selected-spec : {M : Type 1} → statement M
-pass-selected-spec = tie.close (tie.spec Inv-loop μ-loop (λ c. search needs) loop-holds (λ c κs. search needs) turn-requires add-n (λ c. search needs) loop-again same-length same-length-2 same-length-3 same-length-4 returns)
+pass-selected-spec = tie.close (tie.spec Inv-loop μ-loop (λ c. search needs) loop-holds (λ c κs. search needs) add-n (λ c. search needs) loop-again turn-requires add-n-2 (λ c. search needs) loop-again-2 same-length same-length-2 same-length-3 same-length-4 returns)
