@@ -16,7 +16,7 @@ use Rattle.stored.specs.Layout.{limits}
 use Rattle.check_refusals.specs.Tables.{Tables, baseRecords, allRecords, pieceAt, uncut}
 use Rattle.check_refusals.specs.Bounded.{Room}
 use Rattle.check_refusals.specs.Refusals.{isChildOf, notChildOfOne, tooDeep, badCut, badRecord}
-use Rattle.check_children.specs.Counts.{Counting, countsBelow, counts-is}
+use Rattle.laws.specs.Counts.{Counting, countsBelow, counts-is}
 
 -- One more at both children of record r, if it is cut.
 unfoldable pub childrenCounted : List ℕ → Record → List ℕ

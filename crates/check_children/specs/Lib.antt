@@ -1,4 +1,3 @@
-pub mod Counts
 pub mod Children
 pub mod Linked
 pub mod Midpoints

@@ -17,7 +17,7 @@ use Rattle.check_refusals.specs.Tables.{Tables, baseVertices, allVertices, allR
 use Rattle.check_refusals.specs.Bounded.{Room}
 use Rattle.check_refusals.specs.Refusals.{isMidpointOf, noMidpoint}
 use Rattle.check_parents.specs.Pairs.{parentEnds}
-use Rattle.check_children.specs.Counts.{Counting, countsBelow, counts-is, none-counted}
+use Rattle.laws.specs.Counts.{Counting, countsBelow, counts-is, none-counted}
 
 -- One more at the vertex halfway on record n's refinement edge, if the record is cut.
 unfoldable pub midpointCounted : Tables → List ℕ → ℕ → List ℕ

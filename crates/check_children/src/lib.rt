@@ -22,7 +22,7 @@ ghost use Rattle.check_refusals.specs.Refusals.{
   badRecord,
   badCuts,
 };
-ghost use Rattle.check_children.specs.Counts.{countsBelow};
+ghost use Rattle.laws.specs.Counts.{countsBelow};
 ghost use Rattle.check_children.specs.Children.{childrenCounted, notChildOfOneBy, badRecordBy};
 ghost use Rattle.check_children.specs.Linked.{Linked};
 ghost use Rattle.check_children.specs.Midpoints.{midpointCounted, noMidpointBy};

@@ -4,3 +4,4 @@ pub mod Lists
 pub mod Numbers
 pub mod Pairs
 pub mod Links
+pub mod Counts

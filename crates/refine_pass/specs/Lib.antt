@@ -5,4 +5,5 @@ pub mod Steps
 pub mod Law
 pub mod Linked
 pub mod Still
+pub mod Named
 pub mod Stays

@@ -182,6 +182,10 @@ module _ (most : Limits) (l : Layout) (few : most ≡ limits) (laid : l ≡ work
   to-work : l ≡ work
   to-work = laid ∙ (λ i. working (few i .vertices + 1) (few i .records + 2))
 
+  -- The records all have a place in a table of the possible ones.
+  pub records-few : s .header .records ≤ limits .records
+  records-few = let (v, r) = within most (s .header) small in omega (arith, ap (λ (x : Limits). x .records) few)
+
   -- Empty links, filled with all vertices.
   pub passes-begin : Bytes (s .base) × Bytes (s .grown) → (heads nexts : List ℕ) → heads ≡ pairLinks (tablesIn l s) empty (s .header .vertices) .heads → nexts ≡ pairLinks (tablesIn l s) empty (s .header .vertices) .nexts →
       AtWork most l s heads nexts

@@ -7,9 +7,10 @@ use stored::Layout;
 use stored::Limits;
 ghost use mathlib.Core.Path.{_≡_};
 ghost use mathlib.Core.Bool.{true};
-ghost use Prim.Native.Nat.{_<_};
-ghost use Rattle.laws.specs.Links.{Chain};
-ghost use Rattle.stored.specs.Layout.{namedIn};
+ghost use Prim.Native.Nat.{_≤_, _<_};
+ghost use Rattle.laws.specs.Links.{Chain, countedAt};
+ghost use Rattle.laws.specs.Counts.{countsBelow, marked};
+ghost use Rattle.stored.specs.Layout.{limits, namedIn};
 ghost use Rattle.check_refusals.specs.Tables.{tables};
 ghost use Rattle.check_parents.specs.Pairs.{keyOf};
 ghost use Rattle.refine_selection.specs.Selected.{isNamed};
@@ -88,7 +89,18 @@ fn turn(
     with
 }
 
-// Pass one.
+// One more in the table at each number that the selection names.
+fn name_all(named: &mut [u16], selection: &[u8], count: usize)
+    ensures { λ _. ⌜ now (named .exit) ≡ countsBelow (λ t i. countedAt t (namedIn (now (selection .entry)) i)) (now (named .entry)) count ⌝ }
+{
+    let mut i: usize = 0;
+    while i < count {
+        chains::count(named, stored_selections::named_in(selection, i) as usize);
+        i += 1;
+    }
+}
+
+// Pass one: of the records that the table has.
 fn pass_selected(
     most: Limits,
     h: Header,
@@ -97,18 +109,17 @@ fn pass_selected(
     grown: &mut [u8],
     heads: &mut [u16],
     nexts: &mut [u16],
-    selection: &[u8],
-    count: usize,
+    named: &[u16],
 ) -> Header
     requires { ⌜ AtWork most l (slices h (now base) (now grown)) (now heads) (now nexts) ⌝ }
-    ensures { λ r. ⌜ slices r (now (base .exit)) (now (grown .exit)) ≡ passPut most l (λ t. isNamed count (namedIn (now (selection .entry)))) (slices h (now (base .entry)) (now (grown .entry))) ⌝ }
+    ensures { λ r. ⌜ slices r (now (base .exit)) (now (grown .exit)) ≡ passPut most l (λ t. marked (now (named .entry))) (slices h (now (base .entry)) (now (grown .entry))) ⌝ }
     ensures { λ r. ⌜ AtWork most l (slices r (now (base .exit)) (now (grown .exit))) (now (heads .exit)) (now (nexts .exit)) ⌝ }
 {
     let records = h.records as usize;
     let mut with = h;
     let mut n: usize = 0;
     while n < records {
-        if !refine_selection::is_named(selection, count, n) {
+        if chains::at(named, n) == 0 {
             n += 1;
             continue;
         }
@@ -172,7 +183,7 @@ fn close(
     with
 }
 
-// Pass one, and those after it.
+// Pass one, and those after it. The selected records are entered in a table first, which has a place for each possible record.
 fn passes(
     most: Limits,
     h: Header,
@@ -185,9 +196,12 @@ fn passes(
     count: usize,
 ) -> Header
     requires { ⌜ AtWork most l (slices h (now base) (now grown)) (now heads) (now nexts) ⌝ }
+    requires { ⌜ h .records ≤ limits .records ⌝ }
     ensures { λ r. ⌜ slices r (now (base .exit)) (now (grown .exit)) ≡ refinedPut most l (isNamed count (namedIn (now (selection .entry)))) (slices h (now (base .entry)) (now (grown .entry))) ⌝ }
 {
-    let with = pass_selected(most, h, l, base, grown, heads, nexts, selection, count);
+    let mut named = [0u16; stored::RECORDS];
+    name_all(&mut named, selection, count);
+    let with = pass_selected(most, h, l, base, grown, heads, nexts, &named);
     close(most, with, l, base, grown, heads, nexts)
 }
 

@@ -1,4 +1,4 @@
-// Refusals 13 to 17: whose the selection is, and what it names; and whether it names a record.
+// Refusals 13 to 17: whose the selection is, and what it names.
 use stored::Header;
 use stored::Layout;
 use stored::Selection;
@@ -8,7 +8,7 @@ ghost use lib.Dec.{eqb};
 ghost use Rattle.piece.specs.Shape.{lastGeneration};
 ghost use Rattle.stored.specs.Layout.{namedIn, recordIn};
 ghost use Rattle.check_refusals.specs.Tables.{uncut};
-ghost use Rattle.refine_selection.specs.Selected.{anotherJob, anotherRound, badNumber, badNumbers, namesCut, namesLast, isNamed};
+ghost use Rattle.refine_selection.specs.Selected.{anotherJob, anotherRound, badNumber, badNumbers, namesCut, namesLast};
 
 // Refusal 13.
 pub fn another_job(h: Header, s: Selection) -> bool
@@ -101,26 +101,6 @@ pub fn names_last<'a>(
     let mut i: usize = 0;
     while i < count {
         if is_last(l, base, grown, selection, i) {
-            return true;
-        }
-        i += 1;
-    }
-    false
-}
-
-fn is_number(selection: &[u8], n: usize, i: usize) -> bool
-    ensures { λ r. ⌜ r ≡ eqb (namedIn (now (selection .entry)) i) n ⌝ }
-{
-    stored_selections::named_in(selection, i) as usize == n
-}
-
-// Whether record n is selected.
-pub fn is_named(selection: &[u8], count: usize, n: usize) -> bool
-    ensures { λ r. ⌜ r ≡ isNamed count (namedIn (now (selection .entry))) n ⌝ }
-{
-    let mut i: usize = 0;
-    while i < count {
-        if is_number(selection, n, i) {
             return true;
         }
         i += 1;

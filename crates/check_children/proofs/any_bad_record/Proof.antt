@@ -8,7 +8,7 @@ use native.Mathlib.Omega.{arith}
 use lib.ListN.{length}
 use Rattle.laws.specs.Below.{anyBelow, any-none, any-next, any-is, any-end}
 use Rattle.check_refusals.specs.Tables.{tables}
-use Rattle.check_children.specs.Counts.{countsBelow, counts-none, counts-next, counts-end, counts-long}
+use Rattle.laws.specs.Counts.{countsBelow, counts-none, counts-next, counts-end, counts-long}
 use Rattle.check_children.specs.Children.{badRecordBy}
 use Rattle.check_children.specs.Midpoints.{midpointCounted, midpoint-counting}
 use Rattle.check_children.proofs.any_bad_record.Statement.{statement}

@@ -6,7 +6,7 @@ use mathlib.Core.Path.{_≡_, sym, _∙_, ap}
 use native.Mathlib.Omega.{arith}
 use lib.ListN.{length}
 use Rattle.stored.specs.Layout.{recordIn}
-use Rattle.check_children.specs.Counts.{countsBelow, counts-none, counts-next, counts-end, counts-long}
+use Rattle.laws.specs.Counts.{countsBelow, counts-none, counts-next, counts-end, counts-long}
 use Rattle.check_children.specs.Children.{childrenCounted, children-counting}
 use Rattle.check_children.proofs.count_all_children.Statement.{statement}
 use Rattle.check_children.proofs.count_all_children.Tie as tie

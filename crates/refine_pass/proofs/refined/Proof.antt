@@ -11,7 +11,7 @@ use Rattle.refine_selection.specs.Selected.{isNamed}
 use Rattle.refine_cut.specs.Slices.{slices}
 use Rattle.refine_pass.specs.Passes.{exceeds}
 use Rattle.refine_pass.specs.Steps.{beyond-stays, short-base-stays, short-growth-stays}
-use Rattle.refine_pass.specs.Linked.{passes-begin, passes-end}
+use Rattle.refine_pass.specs.Linked.{records-few, passes-begin, passes-end}
 use Rattle.refine_pass.proofs.refined.Statement.{statement}
 use Rattle.refine_pass.proofs.refined.Tie as tie
 
@@ -45,7 +45,7 @@ passes-requires c κs =
     let link = c .before .before .before .before .before .before .link-pairs in
     let base : Bytes (now (a .base)) = record { byte = λ k. omega (arith, c .before .before .before .before .before .before .before .before .before .before .before .before .before .before .before .before .before .before .before .before .before .slice-known .given k) } in
     let grown : Bytes (now (a .grown)) = record { byte = λ k. omega (arith, c .before .before .before .before .before .before .before .before .before .before .before .before .before .before .before .before .before .before .before .before .slice-known2 .given k) } in
-    passes-begin (most .result) (laid .result) (most .ensures) (laid .ensures) (slices (a .h) (now (a .base)) (now (a .grown))) (sym (c .before .before .before .before .before .before .before .before .before .before .before .before .before .before .before .before .before .is-beyond .ensures) ∙ c .before .before .before .before .before .before .before .before .before .before .before .before .before .before .before .before .if1 .left) (c .before .before .before .before .before .before .before .before .before .before .before .before .before .before .before .if2 .left) (c .before .before .before .before .before .before .before .before .before .before .before .before .before .before .if3 .left) (base, grown) (link .last .1 .1 .1 .1 .0) (link .last .1 .1 .1 .1 .1 .0) (link .ensures .0) (link .ensures .1)
+    (passes-begin (most .result) (laid .result) (most .ensures) (laid .ensures) (slices (a .h) (now (a .base)) (now (a .grown))) (sym (c .before .before .before .before .before .before .before .before .before .before .before .before .before .before .before .before .before .is-beyond .ensures) ∙ c .before .before .before .before .before .before .before .before .before .before .before .before .before .before .before .before .if1 .left) (c .before .before .before .before .before .before .before .before .before .before .before .before .before .before .before .if2 .left) (c .before .before .before .before .before .before .before .before .before .before .before .before .before .before .if3 .left) (base, grown) (link .last .1 .1 .1 .1 .0) (link .last .1 .1 .1 .1 .1 .0) (link .ensures .0) (link .ensures .1), records-few (most .result) (laid .result) (most .ensures) (laid .ensures) (slices (a .h) (now (a .base)) (now (a .grown))) (sym (c .before .before .before .before .before .before .before .before .before .before .before .before .before .before .before .before .before .is-beyond .ensures) ∙ c .before .before .before .before .before .before .before .before .before .before .before .before .before .before .before .before .if1 .left) (c .before .before .before .before .before .before .before .before .before .before .before .before .before .before .before .if2 .left) (c .before .before .before .before .before .before .before .before .before .before .before .before .before .before .if3 .left))
 
 returns-4 : tie.Need-returns-4
 returns-4 c =

@@ -1,6 +1,7 @@
--- A table that is filled one record after the other, each of which counts one more at some entries: every entry then says how many records have counted there.
-use mathlib.Core.Path.{_≡_, refl, ap, _∙_}
-use mathlib.Core.Bool.{Bool, not}
+-- A table of counts that is filled one number after the other, each of which counts one more at some entries: every entry then says how many have counted there,
+-- and whether any has, however many there are.
+use mathlib.Core.Path.{_≡_, refl, sym, ap, _∙_}
+use mathlib.Core.Bool.{Bool, not, _||_, or-false}
 use mathlib.Core.Logic.{⊎-elim}
 use mathlib.Core.List.{List}
 use Prim.Native.Nat.{ℕ, zero, suc, _+_, _≤_, _<_}
@@ -9,8 +10,9 @@ use native.Mathlib.Numerals.{add-one}
 use native.Mathlib.Omega.{arith}
 use lib.ListN.{length, getD, replicate, length-replicate, getD-replicate, List·getD-eq-default}
 use lib.Dec.{eqb, ltb}
-use borrow.Author.Tests.{eq-eqb, ne-eqb, ltb-true, ltb-false}
-use Rattle.laws.specs.Below.{sum-at-most, sum-at-least, anyBelow, any-where, any-fails-at, countBelow, count-none, count-suc, count-at-most, bit, either}
+use borrow.Author.Tests.{eqb-true, eqb-false, eq-eqb, ne-eqb, ltb-true, ltb-false}
+use Rattle.laws.specs.Below.{sum-at-most, sum-at-least, anyBelow, any-none, any-suc, any-where, any-fails-at, countBelow, count-none, count-suc, count-at-most, bit, or-true, either}
+use Rattle.laws.specs.Links.{countedAt, counted-full, counted-long, counted-at}
 
 -- The table after the numbers below n, each of which has changed it by add.
 unfoldable pub countsBelow : (List ℕ → ℕ → List ℕ) → List ℕ → ℕ → List ℕ
@@ -86,3 +88,46 @@ none-counted n P =
     let none = sum-at-most (λ j. bit (P j)) n 0 (λ k l. omega (arith, ap bit (any-fails-at P n k f l))) in
     rw f (eq-eqb (countBelow n P) 0 (omega arith)))
     (either (anyBelow n P))
+
+-- ---- one number counts at one entry
+
+-- x has been counted.
+abbrev pub marked : List ℕ → ℕ → Bool
+marked counts x = not (eqb (getD counts x 0) 0)
+
+-- Each number k counts one more at key k.
+pub key-counting : (key : ℕ → ℕ) → Counting (λ t k. countedAt t (key k)) (λ k x. eqb x (key k))
+key-counting key = record { long = λ t k. counted-long t (key k); more = λ t k x l s. counted-at t (key k) x l (s (key k)) }
+
+-- A count that is full stays: what has been counted stays so.
+counted-marked : (counts : List ℕ) (x c : ℕ) → c < length counts → marked (countedAt counts x) c ≡ (marked counts c || eqb x c)
+counted-marked counts x c l =
+    ⊎-elim
+    (λ t. rw (counted-at counts x c l (ltb-true (getD counts x 0) 65535 t)) (one-more (getD counts c 0) x c))
+    (λ f.
+    let full = ltb-false (getD counts x 0) 65535 f in
+    rw (counted-full counts x full) (full-stays full))
+    (either (ltb (getD counts x 0) 65535))
+  where
+    one-more : (y x c : ℕ) → not (eqb (y + bit (eqb c x)) 0) ≡ (not (eqb y 0) || eqb x c)
+    one-more y x c =
+        ⊎-elim
+        (λ t. let e = eqb-true x c t in rw (t, or-true (not (eqb y 0)), eq-eqb c x (sym e), ne-eqb (y + 1) 0 (λ q. omega arith)))
+        (λ f. let no = eqb-false x c f in let same : y + 0 ≡ y = omega arith in rw (f, ne-eqb c x (λ q. no (sym q)), same, or-false (not (eqb y 0))))
+        (either (eqb x c))
+
+    full-stays : 65535 ≤ getD counts x 0 → marked counts c ≡ (marked counts c || eqb x c)
+    full-stays full =
+        ⊎-elim
+        (λ t. let e = ap (λ (y : ℕ). getD counts y 0) (eqb-true x c t) in rw (t, or-true (marked counts c), ne-eqb (getD counts c 0) 0 (λ q. omega arith)))
+        (λ f. rw f (sym (or-false (marked counts c))))
+        (either (eqb x c))
+
+-- An entry of a table that was empty at first has been counted exactly if some number's key is that.
+pub counts-marked : (key : ℕ → ℕ) (room n x : ℕ) → x < room → marked (countsBelow (λ t k. countedAt t (key k)) (replicate room 0) n) x ≡ anyBelow n (λ k. eqb (key k) x)
+counts-marked key room zero x l = rw (counts-none (λ t k. countedAt t (key k)) (replicate room 0), any-none (λ k. eqb (key k) x), getD-replicate {A = ℕ} room x 0 0 l)
+counts-marked key room (suc n) x l =
+    let add : List ℕ → ℕ → List ℕ = λ t k. countedAt t (key k) in
+    let long = counts-long add (λ k x. eqb x (key k)) (key-counting key) (replicate room 0) n ∙ length-replicate {A = ℕ} room 0 in
+    rw (counts-suc add (replicate room 0) n, any-suc (λ k. eqb (key k) x) n)
+    (counted-marked (countsBelow add (replicate room 0) n) (key n) x (rw long l) ∙ ap (λ (b : Bool). b || eqb (key n) x) (counts-marked key room n x l))
