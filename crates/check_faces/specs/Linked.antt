@@ -1,15 +1,15 @@
 -- The faces of the records so far, linked by their keys: what is found along the links is what a search through all faces would find.
-use mathlib.Core.Path.{_≡_, sym, _∙_}
-use mathlib.Core.Bool.{Bool, true, false, _||_}
+use mathlib.Core.Path.{_≡_, refl, sym, _∙_}
+use mathlib.Core.Bool.{Bool, true, false}
 use mathlib.Core.Logic.{⊎-elim}
-use mathlib.Core.List.{List}
-use Prim.Native.Nat.{ℕ, suc, _+_, _*_, _/_, _%_, _≤_, _<_}
+use mathlib.Core.List.{List, [], _∷_}
+use Prim.Native.Nat.{ℕ, zero, suc, _+_, _*_, _/_, _%_, _≤_, _<_}
 use native.Mathlib.Omega.{arith}
 use lib.Dec.{ltb}
 use borrow.Author.Tests.{le-ltb}
 use lib.ListN.{length, getD, replicate, length-replicate}
-use Rattle.laws.specs.Below.{anyBelow, any-none, any-suc, any-same, and-left, and-right, either}
-use Rattle.laws.specs.Links.{Links, linksOf, Chain, pushed, pushed-heads-long, pushed-nexts-long, anyAlong, any-along-none, linkAt, zeros-at, chain-start, chain-pushed, any-gap, chain-any, chain-any-on}
+use Rattle.laws.specs.Below.{anyBelow, any-same, and-left, and-right, either}
+use Rattle.laws.specs.Links.{Links, linksOf, Chain, pushed, pushed-heads-long, pushed-nexts-long, anyAlong, linkAt, zeros-at, chain-start, chain-pushed, any-gap, chain-any, chain-any-on}
 use Rattle.piece.specs.declared.Piece.{Piece}
 use Rattle.stored.specs.declared.Record.{Record}
 use Rattle.stored.specs.Layout.{limits}
@@ -17,7 +17,6 @@ use Rattle.check_refusals.specs.Refusals.{badFaces}
 use Rattle.check_shared.specs.declared.Face.{Face}
 use Rattle.check_shared.specs.Faces.{faceOf}
 use Rattle.check_shared.specs.Keys.{faceHeads, keyOf, key-within, same-key}
-use Rattle.check_faces.specs.declared.Keys.{Keys}
 use Rattle.check_faces.specs.Faces.{isFace, isBefore, badFace, by-faces}
 
 -- Room for every face of the records.
@@ -25,8 +24,16 @@ abbrev pub faces : ℕ
 faces = 4 * limits .records
 
 -- The keys of the faces of a piece with these corners.
-abbrev pub keysOf : List ℕ → Keys
-keysOf p = record { first = keyOf (faceOf p 0); second = keyOf (faceOf p 1); third = keyOf (faceOf p 2); fourth = keyOf (faceOf p 3) }
+abbrev pub keysOf : List ℕ → List ℕ
+keysOf p = keyOf (faceOf p 0) ∷ keyOf (faceOf p 1) ∷ keyOf (faceOf p 2) ∷ keyOf (faceOf p 3) ∷ []
+
+-- The key of face i.
+key-at : (p : List ℕ) (i : ℕ) → i < 4 → getD (keysOf p) i 0 ≡ keyOf (faceOf p i)
+key-at p zero l = refl
+key-at p (suc zero) l = refl
+key-at p (suc (suc zero)) l = refl
+key-at p (suc (suc (suc zero))) l = refl
+key-at p (suc (suc (suc (suc i)))) l = absurd (omega arith)
 
 -- A record before r has this face, as far as the links from m on lead.
 unfoldable pub beforeAlong : (ℕ → Record) → List ℕ → ℕ → Face → ℕ → Bool
@@ -40,27 +47,18 @@ beforeFrom recordAt nexts face f = beforeAlong recordAt nexts (linkAt nexts f) f
 unfoldable pub badAlong : (ℕ → Record) → List ℕ → ℕ → Piece → ℕ → Bool
 badAlong recordAt nexts m q i = let face = faceOf (q .corners) i in anyAlong nexts (badFace recordAt (beforeFrom recordAt nexts face) q i face) m
 
--- Where the links end.
-pub bad-none : (recordAt : ℕ → Record) (nexts : List ℕ) (q : Piece) (i : ℕ) → badAlong recordAt nexts 0 q i ≡ false
-unfolding badAlong
-bad-none recordAt nexts q i = let face = faceOf (q .corners) i in any-along-none nexts (badFace recordAt (beforeFrom recordAt nexts face) q i face)
-
 -- One of q's faces, which have these keys, is.
-unfoldable pub badLinked : (ℕ → Record) → List ℕ → List ℕ → Piece → Keys → Bool
-badLinked recordAt heads nexts q keys =
-    badAlong recordAt nexts (getD heads (keys .first) 0) q 0
-    || badAlong recordAt nexts (getD heads (keys .second) 0) q 1
-    || badAlong recordAt nexts (getD heads (keys .third) 0) q 2
-    || badAlong recordAt nexts (getD heads (keys .fourth) 0) q 3
+unfoldable pub badLinked : (ℕ → Record) → List ℕ → List ℕ → Piece → List ℕ → Bool
+badLinked recordAt heads nexts q keys = anyBelow 4 (λ i. badAlong recordAt nexts (getD heads (getD keys i 0) 0) q i)
 
 -- The faces of record n, which have these keys, are put before the others.
-unfoldable pub pushedFaces : Links → Keys → ℕ → Links
+unfoldable pub pushedFaces : Links → List ℕ → ℕ → Links
 pushedFaces links keys n =
-    pushed (pushed (pushed (pushed links (keys .first) (4 * n)) (keys .second) (4 * n + 1)) (keys .third) (4 * n + 2)) (keys .fourth) (4 * n + 3)
+    pushed (pushed (pushed (pushed links (getD keys 0 0) (4 * n)) (getD keys 1 0) (4 * n + 1)) (getD keys 2 0) (4 * n + 2)) (getD keys 3 0) (4 * n + 3)
 
 -- One push after the other.
-pub four-pushed : (keys : Keys) (n : ℕ) (links a b c d : Links) → a ≡ pushed links (keys .first) (4 * n) → b ≡ pushed a (keys .second) (4 * n + 1) →
-    c ≡ pushed b (keys .third) (4 * n + 2) → d ≡ pushed c (keys .fourth) (4 * n + 3) → d ≡ pushedFaces links keys n
+pub four-pushed : (keys : List ℕ) (n : ℕ) (links a b c d : Links) → a ≡ pushed links (getD keys 0 0) (4 * n) → b ≡ pushed a (getD keys 1 0) (4 * n + 1) →
+    c ≡ pushed b (getD keys 2 0) (4 * n + 2) → d ≡ pushed c (getD keys 3 0) (4 * n + 3) → d ≡ pushedFaces links keys n
 unfolding pushedFaces
 four-pushed keys n links a b c d one two three four = rw (four, three, two, one)
 
@@ -171,16 +169,12 @@ module _ (recordAt : ℕ → Record) where
         (λ f l t. one-key f (and-left (isFace recordAt Sought f) _ t))
         ∙ any-same c Bad BadOfAll same-bad
 
-  -- Four tests.
-  any-four : (P : ℕ → Bool) → (P 0 || P 1 || P 2 || P 3) ≡ anyBelow 4 P
-  any-four P = rw (any-suc P 3, any-suc P 2, any-suc P 1, any-suc P 0, any-none P)
-
   -- Rule 7 for record n.
   pub linked-is : (n : ℕ) (links : Links) → Linked recordAt (4 * n) links →
       badLinked recordAt (links .heads) (links .nexts) (recordAt n .piece) (keysOf (recordAt n .piece .corners)) ≡ badFaces recordAt n
   unfolding badLinked badFaces
   linked-is n links on =
       let q : Piece = recordAt n .piece in
-      let Along : ℕ → Bool = λ i. badAlong recordAt (links .nexts) (getD (links .heads) (keyOf (faceOf (q .corners) i)) 0) q i in
+      let Along : ℕ → Bool = λ i. badAlong recordAt (links .nexts) (getD (links .heads) (getD (keysOf (q .corners)) i 0) 0) q i in
       let Below : ℕ → Bool = λ i. anyBelow (4 * n) (badFace recordAt (λ f. anyBelow (4 * n) (isBefore recordAt (faceOf (q .corners) i) (f / 4))) q i (faceOf (q .corners) i)) in
-      any-four Along ∙ any-same 4 Along Below (λ i l. bad-is (4 * n) links on q i) ∙ by-faces recordAt q n
+      any-same 4 Along Below (λ i l. rw (key-at (q .corners) i l) (bad-is (4 * n) links on q i)) ∙ by-faces recordAt q n

@@ -8,7 +8,6 @@ use stored::Header;
 use stored::Layout;
 ghost use mathlib.Core.Path.{_≡_};
 ghost use Prim.Native.Nat.{_≤_, _<_};
-ghost use lib.ListN.{getD};
 ghost use Rattle.laws.specs.Below.{anyBelow};
 ghost use Rattle.laws.specs.Links.{linksOf};
 ghost use Rattle.stored.specs.Layout.{limits, recordIn};
@@ -22,22 +21,15 @@ ghost use Rattle.check_faces.specs.Linked.{keysOf, beforeAlong, beforeFr
 const FACES: usize = 4 * stored::RECORDS;
 
 // The keys of a piece's four faces.
-struct Keys {
-    first: usize,
-    second: usize,
-    third: usize,
-    fourth: usize,
-}
-
-fn keys_of(p: [u32; 4]) -> Keys
+fn keys_of(p: [u32; 4]) -> [usize; 4]
     ensures { λ r. ⌜ r ≡ keysOf p ⌝ }
 {
-    Keys {
-        first: check_shared::face_key(check_shared::face_of(p, 0)),
-        second: check_shared::face_key(check_shared::face_of(p, 1)),
-        third: check_shared::face_key(check_shared::face_of(p, 2)),
-        fourth: check_shared::face_key(check_shared::face_of(p, 3)),
-    }
+    [
+        check_shared::face_key(check_shared::face_of(p, 0)),
+        check_shared::face_key(check_shared::face_of(p, 1)),
+        check_shared::face_key(check_shared::face_of(p, 2)),
+        check_shared::face_key(check_shared::face_of(p, 3)),
+    ]
 }
 
 // Whether face f is this one.
@@ -138,27 +130,7 @@ fn bad_along<'a>(
     false
 }
 
-// The same from the head of a key on; most keys have no face.
-fn bad_at<'a>(
-    l: Layout,
-    base: &'a [u8],
-    grown: &'a [u8],
-    heads: &[u16],
-    nexts: &[u16],
-    key: usize,
-    q: Piece,
-    i: u8,
-) -> bool
-    ensures { λ b. ⌜ b ≡ badAlong (recordIn l (now (base .entry)) (now (grown .entry))) (now (nexts .entry)) (getD (now (heads .entry)) key 0) q i ⌝ }
-{
-    let m = chains::at(heads, key);
-    if m == 0 {
-        return false;
-    }
-    bad_along(l, base, grown, nexts, m, q, i)
-}
-
-// Whether one of q's faces is, each along the links of its own key.
+// Whether one of q's faces is, each along the links of its own key. They are asked in one loop, so that the whole walk is compiled once and in one piece.
 fn bad_linked<'a>(
     l: Layout,
     base: &'a [u8],
@@ -166,32 +138,31 @@ fn bad_linked<'a>(
     heads: &[u16],
     nexts: &[u16],
     q: Piece,
-    keys: Keys,
+    keys: [usize; 4],
 ) -> bool
     ensures { λ b. ⌜ b ≡ badLinked (recordIn l (now (base .entry)) (now (grown .entry))) (now (heads .entry)) (now (nexts .entry)) q keys ⌝ }
 {
-    if bad_at(l, base, grown, heads, nexts, keys.first, q, 0) {
-        return true;
+    let mut i: u8 = 0;
+    while i < 4 {
+        let m = chains::at(heads, keys[i as usize]);
+        if bad_along(l, base, grown, nexts, m, q, i) {
+            return true;
+        }
+        i += 1;
     }
-    if bad_at(l, base, grown, heads, nexts, keys.second, q, 1) {
-        return true;
-    }
-    if bad_at(l, base, grown, heads, nexts, keys.third, q, 2) {
-        return true;
-    }
-    bad_at(l, base, grown, heads, nexts, keys.fourth, q, 3)
+    false
 }
 
 // The faces of record n are put before the others with their keys.
-fn push_faces(heads: &mut [u16], nexts: &mut [u16], keys: Keys, n: usize)
+fn push_faces(heads: &mut [u16], nexts: &mut [u16], keys: [usize; 4], n: usize)
     requires { ⌜ n < limits .records ⌝ }
     ensures { λ _. ⌜ linksOf (now (heads .exit)) (now (nexts .exit)) ≡ pushedFaces (linksOf (now (heads .entry)) (now (nexts .entry))) keys n ⌝ }
 {
     let f = 4 * n;
-    chains::push(heads, nexts, keys.first, f);
-    chains::push(heads, nexts, keys.second, f + 1);
-    chains::push(heads, nexts, keys.third, f + 2);
-    chains::push(heads, nexts, keys.fourth, f + 3);
+    chains::push(heads, nexts, keys[0], f);
+    chains::push(heads, nexts, keys[1], f + 1);
+    chains::push(heads, nexts, keys[2], f + 2);
+    chains::push(heads, nexts, keys[3], f + 3);
 }
 
 // Whether record n is bad with one before it; then its faces are linked too.

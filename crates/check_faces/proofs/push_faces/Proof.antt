@@ -13,7 +13,24 @@ returns c =
     let p1 = c .before .before .before .before .before .before .before .before .before .before .before .before .before .before .before .before .before .before .push2 .ensures in
     let p2 = c .before .before .before .before .before .before .before .before .before .before .before .push3 .ensures in
     let p3 = c .before .before .before .before .push4 .ensures in
-    four-pushed (a .keys) (a .n) _ _ _ _ _ (links-are _ _ _ (p0 .0) (p0 .1)) (links-are _ _ _ (p1 .0) (p1 .1)) (links-are _ _ _ (p2 .0) (p2 .1)) (links-are _ _ _ (p3 .0) (p3 .1))
+    four-pushed (a .t3) (a .n) _ _ _ _ _ (links-are _ _ _ (p0 .0) (p0 .1)) (links-are _ _ _ (p1 .0) (p1 .1)) (links-are _ _ _ (p2 .0) (p2 .1)) (links-are _ _ _ (p3 .0) (p3 .1))
 
 pub push-faces-spec : {M : Type 1} → statement M
-push-faces-spec = tie.close (tie.spec (λ c. search needs) (λ c κs. search needs) (λ c. search needs) (λ c κs. search needs) (λ c. search needs) (λ c κs. search needs) (λ c. search needs) (λ c κs. search needs) (λ c. search needs) (λ c. search needs) returns)
+push-faces-spec =
+    tie.close
+    (tie.spec
+    (λ c. search needs)
+    (λ c. search needs)
+    (λ c κs. search needs)
+    (λ c. search needs)
+    (λ c. search needs)
+    (λ c κs. search needs)
+    (λ c. search needs)
+    (λ c. search needs)
+    (λ c κs. search needs)
+    (λ c. search needs)
+    (λ c. search needs)
+    (λ c κs. search needs)
+    (λ c. search needs)
+    (λ c. search needs)
+    returns)
