@@ -3,6 +3,9 @@ ghost use mathlib.Core.Path.{_≡_};
 ghost use lib.ListN.{getD};
 ghost use Rattle.laws.specs.Links.{linksOf, pushed, linkAt, countedAt};
 
+// The greatest number that an entry holds.
+const GREATEST: u16 = 65535;
+
 // The number v is put before the others with key k, where there is room.
 pub fn push(heads: &mut [u16], nexts: &mut [u16], k: usize, v: usize)
     ensures { λ _. ⌜ now (heads .exit) ≡ pushed (linksOf (now (heads .entry)) (now (nexts .entry))) k v .heads ⌝ }
@@ -14,7 +17,7 @@ pub fn push(heads: &mut [u16], nexts: &mut [u16], k: usize, v: usize)
     if nexts.len() <= v {
         return;
     }
-    if 65535 <= v {
+    if GREATEST as usize <= v {
         return;
     }
     nexts[v] = heads[k];
@@ -47,7 +50,7 @@ pub fn count(table: &mut [u16], i: usize)
     if table.len() <= i {
         return;
     }
-    if table[i] == 65535 {
+    if table[i] == GREATEST {
         return;
     }
     table[i] = table[i] + 1;

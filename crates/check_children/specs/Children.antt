@@ -10,7 +10,7 @@ use lib.Seq.{getD-set-other}
 use lib.Dec.{eqb, leb, ltb}
 use borrow.Author.Tests.{eqb-true, eqb-false, eq-eqb, ne-eqb}
 use Rattle.laws.specs.Below.{anyBelow, any-same, countBelow, bit, either}
-use Rattle.laws.specs.Links.{countedAt, counted-at, counted-long}
+use Rattle.laws.specs.Links.{greatest, countedAt, counted-at, counted-long}
 use Rattle.stored.specs.declared.Record.{Record}
 use Rattle.stored.specs.Layout.{limits}
 use Rattle.check_refusals.specs.Tables.{Tables, baseRecords, allRecords, pieceAt, uncut}
@@ -31,7 +31,7 @@ counted-other t x c apart =
     ⊎-elim
     (λ y. rw y (getD-set-other t x c (getD t x 0 + 1) 0 apart))
     (λ f. rw f)
-    (either (ltb x (length t) && ltb (getD t x 0) 65535))
+    (either (ltb x (length t) && ltb (getD t x 0) greatest))
 
 -- A number is at most one of two that follow each other.
 one-of-two : (a x : ℕ) → bit (eqb x a) + bit (eqb x (a + 1)) ≡ bit (eqb a x || eqb (a + 1) x)
@@ -55,7 +55,7 @@ children-long t r =
     (either (uncut r))
 
 -- A cut record counts one more at each of its children.
-children-more : (t : List ℕ) (r : Record) (x : ℕ) → x < length t → ((y : ℕ) → getD t y 0 < 65535) → getD (childrenCounted t r) x 0 ≡ getD t x 0 + bit (isChildOf r x)
+children-more : (t : List ℕ) (r : Record) (x : ℕ) → x < length t → ((y : ℕ) → getD t y 0 < greatest) → getD (childrenCounted t r) x 0 ≡ getD t x 0 + bit (isChildOf r x)
 unfolding childrenCounted isChildOf
 children-more t r x l small =
     let a = r .«first_child» in
@@ -64,7 +64,7 @@ children-more t r x l small =
     (λ u. rw u (omega arith))
     (λ f.
     let one = counted-at t a x l (small a) in
-    let still : getD (countedAt t a) b 0 < 65535 = rw (counted-other t a b (λ q. omega arith)) (small b) in
+    let still : getD (countedAt t a) b 0 < greatest = rw (counted-other t a b (λ q. omega arith)) (small b) in
     let other = counted-at (countedAt t a) b x (rw (counted-long t a) l) still in
     rw f (omega (arith, one-of-two a x)))
     (either (uncut r))

@@ -10,7 +10,7 @@ use lib.ListN.{length, getD, replicate}
 use lib.Dec.{eqb, leb}
 use borrow.Author.Tests.{eqb-true, eq-eqb, ne-eqb, lt-ltb}
 use Rattle.laws.specs.Below.{anyBelow, any-same, any-is, any-first, first-where, bit, and-left, and-right, either}
-use Rattle.laws.specs.Links.{countedAt, counted-at, counted-long}
+use Rattle.laws.specs.Links.{greatest, countedAt, counted-at, counted-long}
 use Rattle.piece.specs.declared.Ends.{Ends}
 use Rattle.stored.specs.Layout.{limits}
 use Rattle.check_refusals.specs.Tables.{Tables, baseVertices, allVertices, allRecords, pieceAt, isLeaf, isCut, hasParents, vertexWith, refinementEnds}
@@ -33,7 +33,7 @@ midpoint-counting m = record { long = long; more = more }
     long t n =
         ⊎-elim (λ u. rw u) (λ f. rw f (counted-long t (vertexWith m (refinementEnds (pieceAt m n))))) (either (isLeaf m n))
 
-    more : (t : List ℕ) (n x : ℕ) → x < length t → ((y : ℕ) → getD t y 0 < 65535) → getD (midpointCounted m t n) x 0 ≡ getD t x 0 + bit (isCut m n && eqb x (vertexWith m (refinementEnds (pieceAt m n))))
+    more : (t : List ℕ) (n x : ℕ) → x < length t → ((y : ℕ) → getD t y 0 < greatest) → getD (midpointCounted m t n) x 0 ≡ getD t x 0 + bit (isCut m n && eqb x (vertexWith m (refinementEnds (pieceAt m n))))
     more t n x l small =
         let w = vertexWith m (refinementEnds (pieceAt m n)) in
         ⊎-elim (λ u. rw u (omega arith)) (λ f. rw f (counted-at t w x l (small w))) (either (isLeaf m n))

@@ -14,6 +14,7 @@ ghost use Rattle.laws.specs.Below.{anyBelow};
 ghost use Rattle.piece.specs.Same.{samePiece};
 ghost use Rattle.stored.specs.Layout.{recordIn};
 ghost use Rattle.check_refusals.specs.Tables.{tables, vertexWith, refinementEnds};
+ghost use Rattle.check_parents.specs.Pairs.{Linked};
 ghost use Rattle.check_refusals.specs.Bounded.{orBeyond, Room};
 ghost use Rattle.check_refusals.specs.Refusals.{
   badChildren,
@@ -24,7 +25,6 @@ ghost use Rattle.check_refusals.specs.Refusals.{
 };
 ghost use Rattle.laws.specs.Counts.{countsBelow};
 ghost use Rattle.check_children.specs.Children.{childrenCounted, notChildOfOneBy, badRecordBy};
-ghost use Rattle.check_children.specs.Linked.{Linked};
 ghost use Rattle.check_children.specs.Midpoints.{midpointCounted, noMidpointBy};
 
 // The vertex with these parents; the count of vertices where there is none.

@@ -131,11 +131,13 @@ module _ (recordAt : ℕ → Record) where
     unfolding isFace keyAt
     one-key f t = same-key (faceOf (recordAt (f / 4) .piece .corners) (f % 4)) Sought t
 
-    -- A face along the links, and one below it of a record before its own.
+    -- Face f is the one sought.
     module _ (f : ℕ) (low : f < c) (same : isFace recordAt Sought f ≡ true) where
+      -- A face is the one sought, of a record before f's.
       abbrev Earlier : ℕ → Bool
       Earlier = isBefore recordAt Sought (f / 4)
 
+      -- From f's link on, one is found exactly if there is one below f.
       from-link : beforeFrom recordAt (links .nexts) Sought f ≡ anyBelow f Earlier
       unfolding beforeFrom beforeAlong isBefore
       from-link =
@@ -143,25 +145,28 @@ module _ (recordAt : ℕ → Record) where
           (λ g l t. one-key g (and-right (ltb (g / 4) (f / 4)) (isFace recordAt Sought g) t))
           f low (one-key f same)
 
-      -- A face from f on is of no record before.
+      -- From f on there is none.
       none-past : (g : ℕ) → f ≤ g → g < c → Earlier g ≡ false
       unfolding isBefore
       none-past g up l = rw (le-ltb (g / 4) (f / 4) (omega arith))
 
+      -- So it is found exactly if there is one at all.
       before-is : beforeFrom recordAt (links .nexts) Sought f ≡ anyBelow c Earlier
       before-is = from-link ∙ sym (any-gap Earlier f c (omega arith) none-past)
 
-    -- Face f is bad along the links, and among all faces.
+    -- Face i of q is bad with a face by what is found along the links, and by a search through all faces.
     abbrev Bad : ℕ → Bool
     Bad = badFace recordAt (beforeFrom recordAt (links .nexts) Sought) q i Sought
 
     abbrev BadOfAll : ℕ → Bool
     BadOfAll = badFace recordAt (λ f. anyBelow c (isBefore recordAt Sought (f / 4))) q i Sought
 
+    -- Both are the same: where a record before has the face matters only for the face that is sought.
     same-bad : (f : ℕ) → f < c → Bad f ≡ BadOfAll f
     unfolding badFace
     same-bad f l = ⊎-elim (λ t. rw (before-is f l t)) (λ d. rw d) (either (isFace recordAt Sought f))
 
+    -- What is found along the links of its key.
     bad-is : badAlong recordAt (links .nexts) Head q i ≡ anyBelow c BadOfAll
     unfolding badAlong badFace
     bad-is =

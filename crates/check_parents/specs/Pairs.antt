@@ -8,7 +8,7 @@ use lib.ListN.{length, getD, replicate, length-replicate}
 use lib.Dec.{lit<, eqb, leb, ltb}
 use borrow.Author.Tests.{eqb-true, leb-true, lt-ltb, le-ltb}
 use Rattle.laws.specs.Below.{anyBelow, any-same, firstBelow, and-left, and-right}
-use Rattle.laws.specs.Links.{Chain, Links, linksOf, zeros-at, pushed, linkedBelow, linked-none, linked-suc, linked-heads-long, linked-nexts-long, chain-same, chain-linked, chain-any, chain-first, any-gap, anyAlong, firstAlong}
+use Rattle.laws.specs.Links.{greatest, Chain, Links, linksOf, zeros-at, pushed, linkedBelow, linked-none, linked-suc, linked-heads-long, linked-nexts-long, chain-same, chain-linked, chain-any, chain-first, any-gap, anyAlong, firstAlong}
 use Rattle.piece.specs.declared.Ends.{Ends}
 use Rattle.stored.specs.declared.Vertex.{Vertex}
 use Rattle.check_refusals.specs.Tables.{Tables, baseVertices, allVertices, hasParents, vertexWith}
@@ -54,7 +54,7 @@ module _ (m : Tables) (start : Links) where
   pairs-nexts-long n = linked-nexts-long (keyOf m) start n
 
   -- From empty links on they are a chain.
-  pub pairs-chain : (n : ℕ) → ((k : ℕ) → getD (start .heads) k 0 ≡ 0) → n ≤ length (start .nexts) → n ≤ 65535 → Chain (keyOf m) n (pairLinks m start n .heads) (pairLinks m start n .nexts)
+  pub pairs-chain : (n : ℕ) → ((k : ℕ) → getD (start .heads) k 0 ≡ 0) → n ≤ length (start .nexts) → n ≤ greatest → Chain (keyOf m) n (pairLinks m start n .heads) (pairLinks m start n .nexts)
   unfolding pairLinks
   pairs-chain n clear room small = chain-linked (keyOf m) start n clear room small
 
@@ -115,7 +115,7 @@ abbrev pub empty : ℕ → Links
 empty room = linksOf (replicate pairHeads 0) (replicate room 0)
 
 -- Filled with all vertices.
-pub all-linked : (m : Tables) (room : ℕ) → allVertices m ≤ room → allVertices m ≤ 65535 → (heads nexts : List ℕ) → heads ≡ pairLinks m (empty room) (allVertices m) .heads → nexts ≡ pairLinks m (empty room) (allVertices m) .nexts → Linked m heads nexts
+pub all-linked : (m : Tables) (room : ℕ) → allVertices m ≤ room → allVertices m ≤ greatest → (heads nexts : List ℕ) → heads ≡ pairLinks m (empty room) (allVertices m) .heads → nexts ≡ pairLinks m (empty room) (allVertices m) .nexts → Linked m heads nexts
 all-linked m room fits small heads nexts h n =
     rw (h, n)
     (record {

@@ -36,7 +36,7 @@ pub fn has_parents<'a>(
 }
 
 // The key of a pair.
-pub fn pair_key(ends: Ends) -> usize
+fn pair_key(ends: Ends) -> usize
     ensures { λ r. ⌜ r ≡ pairKey ends ⌝ }
 {
     (ends.lower as usize * 31 + ends.higher as usize) % PAIR_HEADS

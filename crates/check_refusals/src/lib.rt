@@ -7,13 +7,10 @@ use stored::Header;
 use stored::Layout;
 ghost use mathlib.Core.Path.{_≡_};
 ghost use lib.ListN.{getD};
-ghost use lib.Dec.{eqb};
-ghost use Rattle.piece.specs.Ends.{cornerAt};
 ghost use Rattle.grid.specs.Places.{pointOf};
 ghost use Rattle.grid_volume.specs.Volume.{sixfoldOf};
 ghost use Rattle.stored.specs.Layout.{vertexIn, recordIn};
 ghost use Rattle.check_refusals.specs.Bounded.{beyond};
-ghost use Rattle.check_refusals.specs.Refusals.{hasCorner};
 ghost use Rattle.check_refusals.specs.Tables.{uncut, refinementEnds, sixfoldAt};
 
 // What check returns.
@@ -77,24 +74,4 @@ pub fn sixfold_of<'a>(l: Layout, base: &'a [u8], grown: &'a [u8], p: Piece) -> u
 {
     let corners = p.corners;
     sixfold_between(l, base, grown, corners)
-}
-
-fn corner_is(p: Piece, v: u32, k: u8) -> bool
-    ensures { λ r. ⌜ r ≡ eqb (cornerAt p k) v ⌝ }
-{
-    piece::corner(p, k) == v
-}
-
-// Whether vertex v is a corner of a piece.
-pub fn has_corner(p: Piece, v: u32) -> bool
-    ensures { λ r. ⌜ r ≡ hasCorner p v ⌝ }
-{
-    let mut k: u8 = 0;
-    while k < 4 {
-        if corner_is(p, v, k) {
-            return true;
-        }
-        k += 1;
-    }
-    false
 }

@@ -3,7 +3,6 @@
 ghost use mathlib.Core.Path.{_≡_};
 ghost use mathlib.Core.Bool.{cond};
 ghost use Prim.Native.Nat.{max};
-ghost use lib.ListN.{getD};
 ghost use Rattle.check_shared.specs.Faces.{faceOf, holds, inside, sameSet};
 ghost use Rattle.check_shared.specs.Keys.{under, mostUnder, keyOf};
 ghost use Rattle.check_shared.specs.Rest.{has, sameRest};
@@ -99,14 +98,6 @@ pub fn face_key(f: Face) -> usize
     (first as usize + 37 * (second as usize) + 1029 * (third as usize)) % FACE_HEADS
 }
 
-// The corner in slot k.
-fn corner(p: [u32; 4], k: u8) -> u32
-    ensures { λ r. ⌜ r ≡ getD p k 0 ⌝ }
-{
-    let at = k as usize;
-    if at < 4 { p[at] } else { 0 }
-}
-
 fn has_corner(p: [u32; 4], x: u32) -> bool
     ensures { λ r. ⌜ r ≡ has p x ⌝ }
 {
@@ -126,8 +117,8 @@ fn has_corner(p: [u32; 4], x: u32) -> bool
 pub fn same_rest(p: [u32; 4], i: u8, q: [u32; 4], j: u8) -> bool
     ensures { λ r. ⌜ r ≡ sameRest p i q j ⌝ }
 {
-    if has_corner(q, corner(p, i)) {
-        return has_corner(p, corner(q, j));
+    if has_corner(q, piece::corner_at(p, i)) {
+        return has_corner(p, piece::corner_at(q, j));
     }
     false
 }
@@ -149,9 +140,9 @@ fn same_two(a: u32, b: u32, c: u32, d: u32) -> bool
 pub fn same_edge(p: [u32; 4], e: u8, q: [u32; 4], f: u8) -> bool
     ensures { λ r. ⌜ r ≡ sameEdge p e q f ⌝ }
 {
-    let a = corner(p, piece_edges::low_slot(e));
-    let b = corner(p, piece_edges::high_slot(e));
-    let c = corner(q, piece_edges::low_slot(f));
-    let d = corner(q, piece_edges::high_slot(f));
+    let a = piece::corner_at(p, piece_edges::low_slot(e));
+    let b = piece::corner_at(p, piece_edges::high_slot(e));
+    let c = piece::corner_at(q, piece_edges::low_slot(f));
+    let d = piece::corner_at(q, piece_edges::high_slot(f));
     same_two(a, b, c, d)
 }

@@ -12,7 +12,7 @@ use lib.ListN.{length, getD, replicate, length-replicate, getD-replicate, List·
 use lib.Dec.{eqb, ltb}
 use borrow.Author.Tests.{eqb-true, eqb-false, eq-eqb, ne-eqb, ltb-true, ltb-false}
 use Rattle.laws.specs.Below.{sum-at-most, sum-at-least, anyBelow, any-none, any-suc, any-where, any-fails-at, countBelow, count-none, count-suc, count-at-most, bit, or-true, either}
-use Rattle.laws.specs.Links.{countedAt, counted-full, counted-long, counted-at}
+use Rattle.laws.specs.Links.{greatest, countedAt, counted-full, counted-long, counted-at}
 
 -- The table after the numbers below n, each of which has changed it by add.
 unfoldable pub countsBelow : (List ℕ → ℕ → List ℕ) → List ℕ → ℕ → List ℕ
@@ -38,7 +38,7 @@ module _ (add : List ℕ → ℕ → List ℕ) (start : List ℕ) where
 -- Number k counts one more at each x with P k x, as long as every count has room for it.
 pub record Counting (add : List ℕ → ℕ → List ℕ) (P : ℕ → ℕ → Bool) : Type 0 where
   pub long : (t : List ℕ) (k : ℕ) → length (add t k) ≡ length t
-  pub more : (t : List ℕ) (k x : ℕ) → x < length t → ((y : ℕ) → getD t y 0 < 65535) → getD (add t k) x 0 ≡ getD t x 0 + bit (P k x)
+  pub more : (t : List ℕ) (k x : ℕ) → x < length t → ((y : ℕ) → getD t y 0 < greatest) → getD (add t k) x 0 ≡ getD t x 0 + bit (P k x)
 
 module _ (add : List ℕ → ℕ → List ℕ) (P : ℕ → ℕ → Bool) (c : Counting add P) where
   -- The table stays as long as it is.
@@ -65,12 +65,12 @@ module _ (add : List ℕ → ℕ → List ℕ) (P : ℕ → ℕ → Bool) (c : C
       (either (ltb y room))
 
   -- An entry of a table that was empty at first.
-  pub counts-is : (room n x : ℕ) → n ≤ 65535 → x < room → getD (countsBelow add (replicate room 0) n) x 0 ≡ countBelow n (λ k. P k x)
+  pub counts-is : (room n x : ℕ) → n ≤ greatest → x < room → getD (countsBelow add (replicate room 0) n) x 0 ≡ countBelow n (λ k. P k x)
   unfolding table
   counts-is room zero x s l = rw (counts-none add (replicate room 0), count-none (λ k. P k x)) (getD-replicate {A = ℕ} room x 0 0 l)
   counts-is room (suc n) x s l =
       let before : (y : ℕ) → y < room → getD (table room n) y 0 ≡ countBelow n (λ k. P k y) = λ y b. counts-is room n y (omega arith) b in
-      let small : (y : ℕ) → getD (table room n) y 0 < 65535 = λ y. omega (arith, few room n before y) in
+      let small : (y : ℕ) → getD (table room n) y 0 < greatest = λ y. omega (arith, few room n before y) in
       rw (counts-suc add (replicate room 0) n, count-suc (λ k. P k x) n)
       (c .more (table room n) n x (rw (table-long room n) l) small ∙ ap (λ (b : ℕ). b + bit (P n x)) (before x l))
 
@@ -103,11 +103,11 @@ key-counting key = record { long = λ t k. counted-long t (key k); more = λ t k
 counted-marked : (counts : List ℕ) (x c : ℕ) → c < length counts → marked (countedAt counts x) c ≡ (marked counts c || eqb x c)
 counted-marked counts x c l =
     ⊎-elim
-    (λ t. rw (counted-at counts x c l (ltb-true (getD counts x 0) 65535 t)) (one-more (getD counts c 0) x c))
+    (λ t. rw (counted-at counts x c l (ltb-true (getD counts x 0) greatest t)) (one-more (getD counts c 0) x c))
     (λ f.
-    let full = ltb-false (getD counts x 0) 65535 f in
+    let full = ltb-false (getD counts x 0) greatest f in
     rw (counted-full counts x full) (full-stays full))
-    (either (ltb (getD counts x 0) 65535))
+    (either (ltb (getD counts x 0) greatest))
   where
     one-more : (y x c : ℕ) → not (eqb (y + bit (eqb c x)) 0) ≡ (not (eqb y 0) || eqb x c)
     one-more y x c =
@@ -116,7 +116,7 @@ counted-marked counts x c l =
         (λ f. let no = eqb-false x c f in let same : y + 0 ≡ y = omega arith in rw (f, ne-eqb c x (λ q. no (sym q)), same, or-false (not (eqb y 0))))
         (either (eqb x c))
 
-    full-stays : 65535 ≤ getD counts x 0 → marked counts c ≡ (marked counts c || eqb x c)
+    full-stays : greatest ≤ getD counts x 0 → marked counts c ≡ (marked counts c || eqb x c)
     full-stays full =
         ⊎-elim
         (λ t. let e = ap (λ (y : ℕ). getD counts y 0) (eqb-true x c t) in rw (t, or-true (marked counts c), ne-eqb (getD counts c 0) 0 (λ q. omega arith)))

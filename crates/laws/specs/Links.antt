@@ -14,6 +14,10 @@ use lib.Dec.{eqb, leb, ltb}
 use borrow.Author.Tests.{eqb-true, eqb-false, ne-eqb, le-leb, leb-true, ltb-true, ltb-false, lt-ltb, le-ltb}
 use Rattle.laws.specs.Below.{anyBelow, any-none, any-suc, any-fails, any-fails-at, any-is, any-where, firstBelow, first-no, first-is, first-where, bit, and-false, either}
 
+-- The greatest number that an entry of such a list holds.
+abbrev pub greatest : ℕ
+greatest = 65535
+
 -- ---- the last below a bound
 
 -- One more than the last number below n at which P holds, and 0 where there is none.
@@ -195,7 +199,7 @@ links-are links heads nexts h n = λ i. record { heads = h i; nexts = n i }
 
 -- There is room for a number v with key k: the lists have both, and one more than v fits an entry.
 unfoldable pub roomFor : Links → ℕ → ℕ → Bool
-roomFor links k v = ltb k (length (links .heads)) && (ltb v (length (links .nexts)) && ltb v 65535)
+roomFor links k v = ltb k (length (links .heads)) && (ltb v (length (links .nexts)) && ltb v greatest)
 
 -- The number v is put before the others with key k, where there is room; a key past the heads leaves it out.
 unfoldable pub pushed : Links → ℕ → ℕ → Links
@@ -206,9 +210,9 @@ pushed links k v =
 
 module _ (links : Links) (k v : ℕ) where
   -- Where there is room.
-  pub pushed-there : k < length (links .heads) → v < length (links .nexts) → v < 65535 → pushed links k v ≡ linksOf (set (links .heads) k (suc v)) (set (links .nexts) v (getD (links .heads) k 0))
+  pub pushed-there : k < length (links .heads) → v < length (links .nexts) → v < greatest → pushed links k v ≡ linksOf (set (links .heads) k (suc v)) (set (links .nexts) v (getD (links .heads) k 0))
   unfolding pushed roomFor
-  pushed-there h l s = rw (lt-ltb k (length (links .heads)) h, lt-ltb v (length (links .nexts)) l, lt-ltb v 65535 s)
+  pushed-there h l s = rw (lt-ltb k (length (links .heads)) h, lt-ltb v (length (links .nexts)) l, lt-ltb v greatest s)
 
   -- Where the key is past the heads, and where the number is past the links or too great.
   pub pushed-past : length (links .heads) ≤ k → pushed links k v ≡ links
@@ -219,9 +223,9 @@ module _ (links : Links) (k v : ℕ) where
   unfolding pushed roomFor
   pushed-beyond h = rw (le-ltb v (length (links .nexts)) h, and-false (ltb k (length (links .heads))))
 
-  pub pushed-great : 65535 ≤ v → pushed links k v ≡ links
+  pub pushed-great : greatest ≤ v → pushed links k v ≡ links
   unfolding pushed roomFor
-  pushed-great h = rw (le-ltb v 65535 h, and-false (ltb v (length (links .nexts))), and-false (ltb k (length (links .heads))))
+  pushed-great h = rw (le-ltb v greatest h, and-false (ltb v (length (links .nexts))), and-false (ltb k (length (links .heads))))
 
   -- The lists stay as long as they are.
   pub pushed-heads-long : length (pushed links k v .heads) ≡ length (links .heads)
@@ -328,7 +332,7 @@ module _ (key : ℕ → ℕ) (n : ℕ) (links : Links) (c : Chain key n (links .
           (either (eqb v n))
 
   -- Whatever its key is.
-  pub chain-pushed : n < length (links .nexts) → n < 65535 → Chain key (suc n) (pushed links (key n) n .heads) (pushed links (key n) n .nexts)
+  pub chain-pushed : n < length (links .nexts) → n < greatest → Chain key (suc n) (pushed links (key n) n .heads) (pushed links (key n) n .nexts)
   chain-pushed room small =
       ⊎-elim
       (λ t.
@@ -340,7 +344,7 @@ module _ (key : ℕ → ℕ) (n : ℕ) (links : Links) (c : Chain key n (links .
       (either (ltb (key n) (length (links .heads))))
 
 -- From empty links on, one number after the other.
-pub chain-linked : (key : ℕ → ℕ) (start : Links) (n : ℕ) → ((k : ℕ) → getD (start .heads) k 0 ≡ 0) → n ≤ length (start .nexts) → n ≤ 65535 → Chain key n (linkedBelow key start n .heads) (linkedBelow key start n .nexts)
+pub chain-linked : (key : ℕ → ℕ) (start : Links) (n : ℕ) → ((k : ℕ) → getD (start .heads) k 0 ≡ 0) → n ≤ length (start .nexts) → n ≤ greatest → Chain key n (linkedBelow key start n .heads) (linkedBelow key start n .nexts)
 chain-linked key start zero clear room small = rw linked-none (chain-start key (start .heads) (start .nexts) clear)
 chain-linked key start (suc n) clear room small =
     let long = linked-nexts-long key start n in
@@ -494,21 +498,21 @@ module _ (key : ℕ → ℕ) (n : ℕ) (heads nexts : List ℕ) (c : Chain key n
 unfoldable pub countedAt : List ℕ → ℕ → List ℕ
 countedAt table x =
     let more = set table x (getD table x 0 + 1) in
-    cond (ltb x (length table) && ltb (getD table x 0) 65535) more table
+    cond (ltb x (length table) && ltb (getD table x 0) greatest) more table
 
 -- Where there is room.
-pub counted-there : (table : List ℕ) (x : ℕ) → x < length table → getD table x 0 < 65535 → countedAt table x ≡ set table x (getD table x 0 + 1)
+pub counted-there : (table : List ℕ) (x : ℕ) → x < length table → getD table x 0 < greatest → countedAt table x ≡ set table x (getD table x 0 + 1)
 unfolding countedAt
-counted-there table x h s = rw (lt-ltb x (length table) h, lt-ltb (getD table x 0) 65535 s)
+counted-there table x h s = rw (lt-ltb x (length table) h, lt-ltb (getD table x 0) greatest s)
 
 -- Where x is past the end, and where the count is full.
 pub counted-past : (table : List ℕ) (x : ℕ) → length table ≤ x → countedAt table x ≡ table
 unfolding countedAt
 counted-past table x h = rw (le-ltb x (length table) h)
 
-pub counted-full : (table : List ℕ) (x : ℕ) → 65535 ≤ getD table x 0 → countedAt table x ≡ table
+pub counted-full : (table : List ℕ) (x : ℕ) → greatest ≤ getD table x 0 → countedAt table x ≡ table
 unfolding countedAt
-counted-full table x h = rw (le-ltb (getD table x 0) 65535 h, and-false (ltb x (length table)))
+counted-full table x h = rw (le-ltb (getD table x 0) greatest h, and-false (ltb x (length table)))
 
 -- The table stays as long as it is.
 pub counted-long : (table : List ℕ) (x : ℕ) → length (countedAt table x) ≡ length table
@@ -517,10 +521,10 @@ counted-long table x =
     ⊎-elim
     (λ t. rw t (length-set table x (getD table x 0 + 1)))
     (λ f. rw f)
-    (either (ltb x (length table) && ltb (getD table x 0) 65535))
+    (either (ltb x (length table) && ltb (getD table x 0) greatest))
 
 -- What the table then says.
-pub counted-at : (table : List ℕ) (x c : ℕ) → c < length table → getD table x 0 < 65535 → getD (countedAt table x) c 0 ≡ getD table c 0 + bit (eqb c x)
+pub counted-at : (table : List ℕ) (x c : ℕ) → c < length table → getD table x 0 < greatest → getD (countedAt table x) c 0 ≡ getD table c 0 + bit (eqb c x)
 counted-at table x c h s =
     ⊎-elim
     (λ t.

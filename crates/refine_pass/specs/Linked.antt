@@ -6,11 +6,11 @@ use mathlib.Core.List.{List}
 use Prim.Native.Nat.{ℕ, zero, suc, _+_, _*_, _≤_, _<_}
 use native.Mathlib.Nat.{le-refl}
 use native.Mathlib.Omega.{arith}
-use lib.ListN.{length, getD, replicate, length-replicate}
+use lib.ListN.{length, getD, length-replicate}
 use lib.Dec.{eqb}
 use Rattle.laws.specs.Below.{first-at-most}
 use Rattle.laws.specs.Lists.{Bytes}
-use Rattle.laws.specs.Links.{Chain, Links, linksOf, zeros-at, pushed, chain-pushed, firstAlong}
+use Rattle.laws.specs.Links.{greatest, Chain, linksOf, pushed, chain-pushed, firstAlong}
 use Rattle.piece.specs.declared.Ends.{Ends}
 use Rattle.stored.specs.declared.Limits.{Limits}
 use Rattle.stored.specs.declared.Layout.{Layout}
@@ -18,7 +18,7 @@ use Rattle.stored.specs.declared.Header.{Header}
 use Rattle.stored.specs.Layout.{vertexWidth, recordWidth, limits, working, vertexIn, recordIn}
 use Rattle.check_refusals.specs.Tables.{Tables, tables, allVertices, hasParents, vertexWith, refinementEnds}
 use Rattle.check_refusals.specs.Refusals.{leafHangs}
-use Rattle.check_parents.specs.Pairs.{pairHeads, pairKey, keyOf, pairLinks, pairs-heads-long, pairs-nexts-long, pairs-chain, pairs-same, vertex-with-is}
+use Rattle.check_parents.specs.Pairs.{pairKey, keyOf, pairLinks, pairs-nexts-long, pairs-same, Linked, empty, all-linked, vertex-with-is}
 use Rattle.check_hanging.specs.Hanging.{leafHangsAlong, leaf-hangs-along}
 use Rattle.refine_cut.specs.Cut.{midpointOf, oneVertexMore, twoRecordsMore, cutAt}
 use Rattle.refine_cut.specs.Slices.{Slices, tablesIn, vertexPut, headed, midpointPut, childrenPut, hasRoom, cutWith, cutPut}
@@ -95,14 +95,9 @@ module _ (most : Limits) (l : Layout) where
 
 -- ---- the links
 
--- Empty ones, with room for one vertex more than there may be.
-abbrev pub empty : Links
-empty = linksOf (replicate pairHeads 0) (replicate (limits .vertices + 1) 0)
-
--- The links are those of all vertices.
-pub record Linked (m : Tables) (heads nexts : List ℕ) : Type 0 where
-  pub chain : Chain (keyOf m) (allVertices m) heads nexts
-  pub keys : length heads ≡ pairHeads
+-- How many vertices they have room for: one more than there may be.
+abbrev linkRoom : ℕ
+linkRoom = limits .vertices + 1
 
 -- What the passes work on: the tables, and the links of all their vertices, which have room for one vertex more than there may be.
 pub record AtWork (most : Limits) (l : Layout) (s : Slices) (heads nexts : List ℕ) : Type 0 where
@@ -115,7 +110,7 @@ pub record Linking (m : Tables) (was : ℕ) (heads nexts : List ℕ) : Type 0 wh
   pub chain : Chain (keyOf m) was heads nexts
   pub one-more : (allVertices m ≡ was) ⊎ (allVertices m ≡ suc was)
   pub room : was < length nexts
-  pub small : was < 65535
+  pub small : was < greatest
 
 module _ (m : Tables) (was : ℕ) (heads nexts : List ℕ) (g : Linking m was heads nexts) where
   -- There is none, or it is put before the others with its key.
@@ -131,7 +126,7 @@ module _ (m : Tables) (was : ℕ) (heads nexts : List ℕ) (g : Linking m was he
 module _ (l : Layout) (s : Slices) (heads nexts : List ℕ) (k : Linked (tablesIn l s) heads nexts) where
   -- The vertex found along the links is the one with these parents.
   found-is : (ends : Ends) (w : ℕ) → w ≡ firstAlong nexts (hasParents (tablesIn l s) ends) (getD heads (pairKey ends) 0) (s .header .vertices) → w ≡ vertexWith (tablesIn l s) ends
-  found-is ends w is = is ∙ vertex-with-is (tablesIn l s) heads nexts (k .chain) (k .keys) ends
+  found-is ends w is = is ∙ vertex-with-is (tablesIn l s) heads nexts (k .chain) (k .long) ends
 
   pub found-within : (ends : Ends) (w : ℕ) → w ≡ firstAlong nexts (hasParents (tablesIn l s) ends) (getD heads (pairKey ends) 0) (s .header .vertices) → w ≤ s .header .vertices
   unfolding vertexWith
@@ -148,7 +143,7 @@ module _ (l : Layout) (s : Slices) (heads nexts : List ℕ) (k : Linked (tablesI
   hangs-since h kept n r is =
       let m : Tables = tables h l (s .base) (s .grown) in
       is
-      ∙ leaf-hangs-along m (s .header .vertices) heads nexts (pairs-same (tablesIn l s) m (s .header .vertices) heads nexts (kept .base) (λ u b. refl) (k .chain)) (k .keys) (kept .vertices) n
+      ∙ leaf-hangs-along m (s .header .vertices) heads nexts (pairs-same (tablesIn l s) m (s .header .vertices) heads nexts (kept .base) (λ u b. refl) (k .chain)) (k .long) (kept .vertices) n
 
 module _ (most : Limits) (l : Layout) (s : Slices) (heads nexts : List ℕ) (k : AtWork most l s heads nexts) (few : exceeds most (s .header) ≡ false) (n : ℕ) (there : n < s .header .records)
     (t : Slices) (is : t ≡ cutPut l s n) where
@@ -170,7 +165,7 @@ module _ (most : Limits) (l : Layout) (s : Slices) (heads nexts : List ℕ) (k :
   cut-linked heads′ nexts′ c h m =
       record {
         working = subst (Working most l) (sym is) (cut-working most l s n (k .working) few there);
-        linked = record { chain = c; keys = h ∙ k .linked .keys };
+        linked = record { chain = c; long = h ∙ k .linked .long };
         room = omega (arith, k .room);
       }
 
@@ -187,21 +182,18 @@ module _ (most : Limits) (l : Layout) (few : most ≡ limits) (laid : l ≡ work
   records-few = let (v, r) = within most (s .header) small in omega (arith, ap (λ (x : Limits). x .records) few)
 
   -- Empty links, filled with all vertices.
-  pub passes-begin : Bytes (s .base) × Bytes (s .grown) → (heads nexts : List ℕ) → heads ≡ pairLinks (tablesIn l s) empty (s .header .vertices) .heads → nexts ≡ pairLinks (tablesIn l s) empty (s .header .vertices) .nexts →
+  pub passes-begin : Bytes (s .base) × Bytes (s .grown) → (heads nexts : List ℕ) → heads ≡ pairLinks (tablesIn l s) (empty linkRoom) (s .header .vertices) .heads → nexts ≡ pairLinks (tablesIn l s) (empty linkRoom) (s .header .vertices) .nexts →
       AtWork most l s heads nexts
   passes-begin bytes heads nexts h n =
       let (v, r) = within most (s .header) small in
       let same = ap (λ (x : Limits). x .vertices) few in
-      let there = length-replicate {A = ℕ} (limits .vertices + 1) 0 in
-      rw (h, n)
-      (record {
+      let there = length-replicate {A = ℕ} linkRoom 0 in
+      let filled = pairs-nexts-long (tablesIn l s) (empty linkRoom) (s .header .vertices) in
+      record {
         working = subst₂ Here (sym few) (sym to-work) (can-begin s long deep bytes);
-        linked = record {
-          chain = pairs-chain (tablesIn l s) empty (s .header .vertices) (zeros-at pairHeads) (omega arith) (omega arith);
-          keys = pairs-heads-long (tablesIn l s) empty (s .header .vertices) ∙ length-replicate {A = ℕ} pairHeads 0;
-        };
-        room = omega (arith, pairs-nexts-long (tablesIn l s) empty (s .header .vertices));
-      })
+        linked = all-linked (tablesIn l s) linkRoom (omega arith) (omega arith) heads nexts h n;
+        room = omega (arith, ap length n);
+      }
     where
       Here : Limits → Layout → Type 0
       Here x y = Working x y s

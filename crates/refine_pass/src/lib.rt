@@ -12,12 +12,12 @@ ghost use Rattle.laws.specs.Links.{Chain, countedAt};
 ghost use Rattle.laws.specs.Counts.{countsBelow, marked};
 ghost use Rattle.stored.specs.Layout.{limits, namedIn};
 ghost use Rattle.check_refusals.specs.Tables.{tables};
-ghost use Rattle.check_parents.specs.Pairs.{keyOf};
+ghost use Rattle.check_parents.specs.Pairs.{keyOf, Linked};
 ghost use Rattle.refine_selection.specs.Selected.{isNamed};
 ghost use Rattle.refine_cut.specs.Slices.{slices, cutPut};
 ghost use Rattle.refine_pass.specs.Passes.{exceeds};
 ghost use Rattle.refine_pass.specs.Puts.{turnPut, passPut, hangsSince, closingPut, refinedPut, refinedWithin};
-ghost use Rattle.refine_pass.specs.Linked.{Linked, Linking, AtWork};
+ghost use Rattle.refine_pass.specs.Linked.{Linking, AtWork};
 
 // Whether there are more vertices or more records than there may be.
 pub fn is_beyond(most: Limits, h: Header) -> bool

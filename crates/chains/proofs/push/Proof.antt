@@ -41,6 +41,7 @@ push-spec =
     (tie.spec
     returns
     returns-2
+    (λ c. search needs)
     returns-3
     (λ c. search needs)
     (λ c. search needs)

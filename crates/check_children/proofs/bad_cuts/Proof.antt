@@ -2,9 +2,11 @@
 -- they are asked. Assumes nothing.
 use borrow.Author.Needs.{needs}
 use mathlib.Core.Path.{sym, _∙_}
+use native.Mathlib.Omega.{arith}
+use Rattle.stored.specs.Layout.{limits}
 use Rattle.check_refusals.specs.Bounded.{orBeyond, room}
 use Rattle.check_refusals.specs.Refusals.{badCuts}
-use Rattle.check_children.specs.Linked.{linked}
+use Rattle.check_parents.specs.Pairs.{all-linked}
 use Rattle.check_children.specs.Midpoints.{any-no-midpoint-is}
 use Rattle.check_children.proofs.bad_cuts.Statement.{statement}
 use Rattle.check_children.proofs.bad_cuts.Tie as tie
@@ -14,14 +16,14 @@ unfolding orBeyond
 returns c = rw (sym (c .before .is-beyond .ensures) ∙ c .if1 .taken)
 
 bad-records-requires : tie.Need-bad-records-requires
-bad-records-requires c κs = let within = room _ (sym (c .before .before .before .before .before .before .before .before .before .is-beyond .ensures) ∙ c .before .before .before .before .before .before .before .before .if1 .left) in (rw (c .before .before .before .before .before .link-pairs .ensures .0, c .before .before .before .before .before .link-pairs .ensures .1) (linked _ (within .vertices)), within)
+bad-records-requires c κs = let within = room _ (sym (c .before .before .before .before .before .before .before .before .before .is-beyond .ensures) ∙ c .before .before .before .before .before .before .before .before .if1 .left) in (all-linked _ (limits .vertices) (within .vertices) (omega (arith, within .vertices)) _ _ (c .before .before .before .before .before .link-pairs .ensures .0) (c .before .before .before .before .before .link-pairs .ensures .1), within)
 
 returns-2 : tie.Need-returns-2
 unfolding orBeyond badCuts
 returns-2 c = rw (sym (c .before .before .before .before .before .before .before .before .before .before .before .before .is-beyond .ensures) ∙ c .before .before .before .before .before .before .before .before .before .before .before .if1 .left, sym (c .before .before .bad-records .ensures .0) ∙ c .if2 .taken)
 
 no-midpoints-requires : tie.Need-no-midpoints-requires
-no-midpoints-requires c κs = let within = room _ (sym (c .before .before .before .before .before .before .before .before .before .before .before .before .before .before .before .is-beyond .ensures) ∙ c .before .before .before .before .before .before .before .before .before .before .before .before .before .before .if1 .left) in rw (c .before .before .before .before .before .before .before .before .before .before .before .link-pairs .ensures .0, c .before .before .before .before .before .before .before .before .before .before .before .link-pairs .ensures .1) (linked _ (within .vertices))
+no-midpoints-requires c κs = let within = room _ (sym (c .before .before .before .before .before .before .before .before .before .before .before .before .before .before .before .is-beyond .ensures) ∙ c .before .before .before .before .before .before .before .before .before .before .before .before .before .before .if1 .left) in all-linked _ (limits .vertices) (within .vertices) (omega (arith, within .vertices)) _ _ (c .before .before .before .before .before .before .before .before .before .before .before .link-pairs .ensures .0) (c .before .before .before .before .before .before .before .before .before .before .before .link-pairs .ensures .1)
 
 returns-3 : tie.Need-returns-3
 unfolding orBeyond badCuts
