@@ -15,7 +15,7 @@ use Rattle.check_refusals.specs.Tables.{Tables, baseVertices, allVertices, hasP
 
 -- How many keys there are.
 abbrev pub pairHeads : ℕ
-pairHeads = 4096
+pairHeads = 8192
 
 -- The key of a pair of vertices.
 unfoldable pub pairKey : Ends → ℕ

@@ -12,7 +12,7 @@ ghost use Rattle.check_refusals.specs.Tables.{tables, hasParents};
 ghost use Rattle.check_parents.specs.Pairs.{pairKey, keyOf, pairLinks};
 
 // How many keys the links have.
-pub const PAIR_HEADS: usize = 4096;
+pub const PAIR_HEADS: usize = 8192;
 
 // Whether vertex v is made and has these parents.
 pub fn has_parents<'a>(

@@ -19,7 +19,7 @@ use std::process::ExitCode;
 use std::time::Instant;
 
 /// Runs of each service on each mesh; odd, so that one of them is the median.
-const RUNS: usize = 21;
+const RUNS: usize = 101;
 
 fn main() -> ExitCode {
     let words: Vec<OsString> = env::args_os().skip(1).collect();
