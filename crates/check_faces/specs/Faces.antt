@@ -7,13 +7,13 @@ use Prim.Native.Nat.{ℕ, _+_, _*_, _/_, _%_, _<_}
 use native.Mathlib.Omega.{arith}
 use lib.Dec.{ltb}
 use borrow.Author.Tests.{ltb-true, lt-ltb}
-use Rattle.laws.specs.Below.{anyBelow, any-is, any-where, and-left, and-right, or-true, or-second, either}
+use Rattle.laws.specs.Below.{same-tests, anyBelow, any-is, any-where, and-left, and-right, or-true, or-second, either}
 use Rattle.piece.specs.declared.Piece.{Piece}
 use Rattle.piece.specs.Shape.{shapeOf, mark}
 use Rattle.stored.specs.declared.Record.{Record}
 use Rattle.check_refusals.specs.Refusals.{sameFace, sameMark, sameCorners, twoMarksOn, twoMarks, hasFace, faceBefore, faceInThree, badTogether, badWith}
 use Rattle.check_shared.specs.declared.Face.{Face}
-use Rattle.check_shared.specs.Faces.{both, faceOf, sameSet, same-face-is}
+use Rattle.check_shared.specs.Faces.{faceOf, sameSet, same-face-is}
 use Rattle.check_shared.specs.Shared.{share-face}
 use Rattle.check_shared.specs.Rest.{sameRest, same-rest-is}
 use Rattle.check_shared.specs.Marks.{sameEdge, same-edge-is}
@@ -157,7 +157,7 @@ module _ (recordAt : ℕ → Record) (q : Piece) (n : ℕ) where
   pub by-faces : anyBelow 4 (λ i. anyBelow (4 * n) (Bad i)) ≡ badWith recordAt q n
   unfolding badWith
   by-faces =
-      both (anyBelow 4 (λ i. anyBelow (4 * n) (Bad i))) (badWith recordAt q n)
+      same-tests (anyBelow 4 (λ i. anyBelow (4 * n) (Bad i))) (badWith recordAt q n)
       (λ e.
       let (i, l, t) = any-where (λ i. anyBelow (4 * n) (Bad i)) 4 e in
       let (f, b, u) = any-where (Bad i) (4 * n) t in

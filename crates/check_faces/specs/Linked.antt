@@ -7,9 +7,9 @@ use Prim.Native.Nat.{ℕ, zero, suc, _+_, _*_, _/_, _%_, _≤_, _<_}
 use native.Mathlib.Omega.{arith}
 use lib.Dec.{ltb}
 use borrow.Author.Tests.{le-ltb}
-use lib.ListN.{length, getD, replicate, length-replicate}
+use lib.ListN.{getD, replicate}
 use Rattle.laws.specs.Below.{anyBelow, any-same, and-left, and-right, either}
-use Rattle.laws.specs.Links.{Links, linksOf, Chain, pushed, pushed-heads-long, pushed-nexts-long, anyAlong, linkAt, zeros-at, chain-start, chain-pushed, any-gap, chain-any, chain-any-on}
+use Rattle.laws.specs.Links.{Links, linksOf, pushed, Kept, kept-none, kept-next, anyAlong, linkAt, any-gap, chain-any, chain-any-on}
 use Rattle.piece.specs.declared.Piece.{Piece}
 use Rattle.stored.specs.declared.Record.{Record}
 use Rattle.stored.specs.Layout.{limits}
@@ -67,33 +67,18 @@ unfoldable pub keyAt : (ℕ → Record) → ℕ → ℕ
 keyAt recordAt f = keyOf (faceOf (recordAt (f / 4) .piece .corners) (f % 4))
 
 -- The links are those of the first c faces.
-pub record Linked (recordAt : ℕ → Record) (c : ℕ) (links : Links) : Type 0 where
-  pub chain : Chain (keyAt recordAt) c (links .heads) (links .nexts)
-  pub heads-long : length (links .heads) ≡ faceHeads
-  pub nexts-long : length (links .nexts) ≡ faces
+abbrev pub Linked : (ℕ → Record) → ℕ → Links → Type 0
+Linked recordAt c links = Kept (keyAt recordAt) faceHeads faces c links
 
 module _ (recordAt : ℕ → Record) where
-  -- ---- no face yet
-
+  -- No face yet.
   pub none-linked : Linked recordAt 0 (linksOf (replicate faceHeads 0) (replicate faces 0))
-  none-linked =
-      record {
-        chain = chain-start (keyAt recordAt) (replicate faceHeads 0) (replicate faces 0) (zeros-at faceHeads);
-        heads-long = length-replicate {A = ℕ} faceHeads 0;
-        nexts-long = length-replicate {A = ℕ} faces 0;
-      }
+  none-linked = kept-none (keyAt recordAt) faceHeads faces
 
   -- ---- one record more
 
   face-pushed : (links : Links) (c next k : ℕ) → Linked recordAt c links → c < faces → next ≡ suc c → k ≡ keyAt recordAt c → Linked recordAt next (pushed links k c)
-  face-pushed links c next k on low is key =
-      let room : c < length (links .nexts) = rw (on .nexts-long) low in
-      rw (is, key)
-      (record {
-        chain = chain-pushed (keyAt recordAt) c links (on .chain) room (omega arith);
-        heads-long = pushed-heads-long links (keyAt recordAt c) c ∙ on .heads-long;
-        nexts-long = pushed-nexts-long links (keyAt recordAt c) c ∙ on .nexts-long;
-      })
+  face-pushed links c next k on low is key = kept-next (keyAt recordAt) faceHeads faces c next k links on low (omega arith) is key
 
   module _ (links : Links) (n : ℕ) (on : Linked recordAt (4 * n) links) (low : n < limits .records) where
     -- The key of face j.

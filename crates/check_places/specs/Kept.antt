@@ -1,16 +1,16 @@
 -- Refusal 4's links: base vertices are kept by their places and made ones by their parents, so that only those with one key are looked at.
-use mathlib.Core.Path.{_≡_, _∙_}
+use mathlib.Core.Path.{_≡_, refl}
 use mathlib.Core.Bool.{Bool, true, cond, _&&_}
 use mathlib.Core.List.{List}
 use Prim.Native.Nat.{ℕ, _+_, _*_, _/_, _%_, _<_}
 use native.Mathlib.Nat.{mod-lt, le-refl}
 use native.Mathlib.Numerals.{add-one}
 use native.Mathlib.Omega.{arith}
-use lib.ListN.{length, getD, replicate, length-replicate}
+use lib.ListN.{getD}
 use lib.Dec.{lit<, eqb, ltb}
 use borrow.Author.Tests.{eqb-true, lt-ltb}
 use Rattle.laws.specs.Below.{and-left, and-right}
-use Rattle.laws.specs.Links.{Chain, linksOf, pushed, pushed-heads-long, pushed-nexts-long, zeros-at, chain-start, chain-pushed, chain-any, anyAlong}
+use Rattle.laws.specs.Links.{linksOf, links-are, pushed, Kept, kept-next, chain-any, anyAlong}
 use Rattle.grid.specs.declared.Place.{Place}
 use Rattle.grid.specs.Places.{samePlace}
 use Rattle.stored.specs.declared.Vertex.{Vertex}
@@ -49,31 +49,14 @@ same-key a b t =
 -- ---- what is kept of the vertices before v
 
 -- The links of the numbers before n, with so many keys and room for all vertices.
-pub record Kept (key : ℕ → ℕ) (keys n : ℕ) (heads nexts : List ℕ) : Type 0 where
-  pub chain : Chain key n heads nexts
-  pub headsLong : length heads ≡ keys
-  pub nextsLong : length nexts ≡ limits .vertices
-
--- Of none.
-pub kept-none : (key : ℕ → ℕ) (keys : ℕ) → Kept key keys 0 (replicate keys 0) (replicate (limits .vertices) 0)
-kept-none key keys =
-    record {
-      chain = chain-start key (replicate keys 0) (replicate (limits .vertices) 0) (zeros-at keys);
-      headsLong = length-replicate {A = ℕ} keys 0;
-      nextsLong = length-replicate {A = ℕ} (limits .vertices) 0;
-    }
+abbrev pub VerticesKept : (ℕ → ℕ) → ℕ → ℕ → List ℕ → List ℕ → Type 0
+VerticesKept key keys n heads nexts = Kept key keys (limits .vertices) n (linksOf heads nexts)
 
 -- Of one vertex more.
-pub kept-next : (key : ℕ → ℕ) (keys n : ℕ) (heads nexts heads′ nexts′ : List ℕ) → Kept key keys n heads nexts → n < limits .vertices → heads′ ≡ pushed (linksOf heads nexts) (key n) n .heads → nexts′ ≡ pushed (linksOf heads nexts) (key n) n .nexts → Kept key keys (n + 1) heads′ nexts′
-kept-next key keys n heads nexts heads′ nexts′ k room h t =
-    let links = linksOf heads nexts in
-    let long = k .nextsLong in
-    rw (h, t, add-one n)
-    (record {
-      chain = chain-pushed key n links (k .chain) (omega arith) (omega arith);
-      headsLong = pushed-heads-long links (key n) n ∙ k .headsLong;
-      nextsLong = pushed-nexts-long links (key n) n ∙ long;
-    })
+pub vertex-kept : (key : ℕ → ℕ) (keys n : ℕ) (heads nexts heads′ nexts′ : List ℕ) → VerticesKept key keys n heads nexts → n < limits .vertices → heads′ ≡ pushed (linksOf heads nexts) (key n) n .heads → nexts′ ≡ pushed (linksOf heads nexts) (key n) n .nexts → VerticesKept key keys (n + 1) heads′ nexts′
+vertex-kept key keys n heads nexts heads′ nexts′ k room h t =
+    rw (links-are (pushed (linksOf heads nexts) (key n) n) heads′ nexts′ h t)
+    (kept-next key keys (limits .vertices) n (n + 1) (key n) (linksOf heads nexts) k room (omega arith) (add-one n) refl)
 
 -- ---- what is found there
 
@@ -82,10 +65,10 @@ unfoldable pub placeAlong : (ℕ → Vertex) → List ℕ → List ℕ → Place
 placeAlong vertexAt heads nexts p = anyAlong nexts (λ u. samePlace (vertexAt u .place) p) (getD heads (placeKey p) 0)
 
 -- Where base vertex v stands another one before it does, or none.
-pub place-twice : (m : Tables) (v : ℕ) (heads nexts : List ℕ) → Kept (placeKeyOf m) placeHeads v heads nexts → v < baseVertices m → placeAlong (m .vertexAt) heads nexts (m .vertexAt v .place) ≡ placeTwice (m .vertexAt) v
+pub place-twice : (m : Tables) (v : ℕ) (heads nexts : List ℕ) → VerticesKept (placeKeyOf m) placeHeads v heads nexts → v < baseVertices m → placeAlong (m .vertexAt) heads nexts (m .vertexAt v .place) ≡ placeTwice (m .vertexAt) v
 unfolding placeAlong placeTwice placeKeyOf
 place-twice m v heads nexts k inBase =
-    chain-any (placeKeyOf m) v heads nexts (k .chain) (λ u. samePlace (m .vertexAt u .place) place) (placeKey place) (rw (k .headsLong) (place-key-within place)) only
+    chain-any (placeKeyOf m) v heads nexts (k .chain) (λ u. samePlace (m .vertexAt u .place) place) (placeKey place) (rw (k .heads-long) (place-key-within place)) only
   where
     place : Place
     place = m .vertexAt v .place
@@ -94,6 +77,6 @@ place-twice m v heads nexts k inBase =
     only u l t = rw (lt-ltb u (baseVertices m) (omega arith)) (same-key (m .vertexAt u .place) place t)
 
 -- A vertex before v has v's parents, or none.
-pub pair-twice : (m : Tables) (v : ℕ) (heads nexts : List ℕ) → Kept (keyOf m) pairHeads v heads nexts → anyAlong nexts (λ u. ltb u v && hasParents m (parentEnds (m .vertexAt v)) u) (getD heads (pairKey (parentEnds (m .vertexAt v))) 0) ≡ pairTwice m v
+pub pair-twice : (m : Tables) (v : ℕ) (heads nexts : List ℕ) → VerticesKept (keyOf m) pairHeads v heads nexts → anyAlong nexts (λ u. ltb u v && hasParents m (parentEnds (m .vertexAt v)) u) (getD heads (pairKey (parentEnds (m .vertexAt v))) 0) ≡ pairTwice m v
 unfolding pairTwice
-pair-twice m v heads nexts k = any-with-is m v heads nexts (k .chain) (k .headsLong) (parentEnds (m .vertexAt v)) v (le-refl v)
+pair-twice m v heads nexts k = any-with-is m v heads nexts (k .chain) (k .heads-long) (parentEnds (m .vertexAt v)) v (le-refl v)

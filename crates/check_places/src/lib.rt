@@ -13,7 +13,7 @@ ghost use Rattle.check_refusals.specs.Tables.{tables};
 ghost use Rattle.check_refusals.specs.Refusals.{badBaseVertex, badMadeVertex, pairTwice, badVertex, badVertices};
 ghost use Rattle.check_refusals.specs.Bounded.{Room, orBeyond};
 ghost use Rattle.check_parents.specs.Pairs.{pairHeads, keyOf};
-ghost use Rattle.check_places.specs.Kept.{placeHeads, placeKey, placeKeyOf, Kept, placeAlong};
+ghost use Rattle.check_places.specs.Kept.{placeHeads, placeKey, placeKeyOf, VerticesKept, placeAlong};
 
 // How many keys places have.
 const PLACE_HEADS: usize = 1021;
@@ -97,7 +97,7 @@ fn pair_twice<'a>(
     nexts: &'a [u16],
     v: usize,
 ) -> bool
-    requires { ⌜ Kept (keyOf (tables h l (now base) (now grown))) pairHeads v (now heads) (now nexts) ⌝ }
+    requires { ⌜ VerticesKept (keyOf (tables h l (now base) (now grown))) pairHeads v (now heads) (now nexts) ⌝ }
     ensures { λ r. ⌜ r ≡ pairTwice (tables h l (now (base .entry)) (now (grown .entry))) v ⌝ }
 {
     let parents = stored_entries::parents_in(l, base, grown, v);
@@ -121,8 +121,8 @@ fn bad_vertex<'a>(
     pair_nexts: &'a [u16],
     v: usize,
 ) -> bool
-    requires { ⌜ Kept (placeKeyOf (tables h l (now base) (now grown))) placeHeads v (now «place_heads») (now «place_nexts») ⌝ }
-    requires { ⌜ Kept (keyOf (tables h l (now base) (now grown))) pairHeads v (now «pair_heads») (now «pair_nexts») ⌝ }
+    requires { ⌜ VerticesKept (placeKeyOf (tables h l (now base) (now grown))) placeHeads v (now «place_heads») (now «place_nexts») ⌝ }
+    requires { ⌜ VerticesKept (keyOf (tables h l (now base) (now grown))) pairHeads v (now «pair_heads») (now «pair_nexts») ⌝ }
     ensures { λ r. ⌜ r ≡ badVertex (tables h l (now (base .entry)) (now (grown .entry))) v ⌝ }
 {
     if v < h.base_vertices as usize {

@@ -1,6 +1,6 @@
 -- A face by its three corners.
-use mathlib.Core.Path.{_≡_, refl, sym, _∙_, ap₂}
-use mathlib.Core.Bool.{Bool, true, false, cond, false≢true, _&&_, _||_}
+use mathlib.Core.Path.{_≡_, refl, _∙_, ap₂}
+use mathlib.Core.Bool.{Bool, cond, _&&_, _||_, and-true, or-false}
 use mathlib.Core.List.{List}
 use Prim.Native.Nat.{ℕ, zero, suc, _<_}
 use native.Mathlib.Omega.{arith}
@@ -31,22 +31,6 @@ inside f g = holds g (f .a) && holds g (f .b) && holds g (f .c)
 
 unfoldable pub sameSet : Face → Face → Bool
 sameSet f g = inside f g && inside g f
-
--- ---- tests
-
--- Two tests that hold together.
-pub both : (a b : Bool) → (a ≡ true → b ≡ true) → (b ≡ true → a ≡ true) → a ≡ b
-both true b there back = sym (there refl)
-both false true there back = absurd (false≢true (back refl))
-both false false there back = refl
-
-or-false : (a : Bool) → (a || false) ≡ a
-or-false true = refl
-or-false false = refl
-
-and-true : (a : Bool) → (a && true) ≡ a
-and-true true = refl
-and-true false = refl
 
 -- ---- the same as the definitions by slots
 

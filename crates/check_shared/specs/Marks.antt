@@ -8,14 +8,13 @@ use native.Mathlib.Omega.{arith}
 use lib.Dec.{eqb, ltb}
 use lib.ListN.{getD}
 use borrow.Author.Tests.{eqb-true, eq-eqb, ltb-true, ltb-false}
-use Rattle.laws.specs.Below.{and-left, and-right, either}
+use Rattle.laws.specs.Below.{same-tests, and-left, and-right, either}
 use Rattle.laws.specs.Pairs.{SamePair, pair-through, pair-turned, pair-in-order}
 use Rattle.piece_edges.specs.Edges.{lowSlot, highSlot}
 use Rattle.piece.specs.declared.Piece.{Piece}
 use Rattle.piece.specs.declared.Ends.{Ends}
 use Rattle.piece.specs.Ends.{cornerAt, lowerEnd, higherEnd, endsOf}
 use Rattle.check_refusals.specs.Refusals.{sameEnds}
-use Rattle.check_shared.specs.Faces.{both}
 
 -- Two pairs of numbers are the same, in either order.
 unfoldable pub sameTwo : ℕ → ℕ → ℕ → ℕ → Bool
@@ -61,7 +60,7 @@ module _ (p : Piece) (e : ℕ) where
 
 pub same-edge-is : (p q : Piece) (e f : ℕ) → sameEdge (p .corners) e (q .corners) f ≡ sameEnds (endsOf p e) (endsOf q f)
 unfolding sameEdge sameEnds
-same-edge-is p q e f = both (sameTwo a b c d) (eqb (one .lower) (other .lower) && eqb (one .higher) (other .higher)) there back
+same-edge-is p q e f = same-tests (sameTwo a b c d) (eqb (one .lower) (other .lower) && eqb (one .higher) (other .higher)) there back
   where
     a : ℕ
     a = cornerAt p (lowSlot e)

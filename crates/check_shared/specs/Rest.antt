@@ -7,11 +7,10 @@ use Prim.Native.Nat.{ℕ, _<_}
 use lib.Dec.{eqb}
 use lib.ListN.{getD}
 use borrow.Author.Tests.{eqb-true}
-use Rattle.laws.specs.Below.{anyBelow, any-is, any-where, all-at, all-of, and-left, and-right, or-second, either}
+use Rattle.laws.specs.Below.{same-tests, anyBelow, any-is, any-where, all-at, all-of, and-left, and-right, or-second, either}
 use Rattle.piece.specs.declared.Piece.{Piece}
 use Rattle.piece.specs.Ends.{cornerAt}
 use Rattle.check_refusals.specs.Refusals.{hasCorner, faceHas, faceWithin, sameFace, cornersWithin, sameCorners}
-use Rattle.check_shared.specs.Faces.{both}
 
 -- x is one of these corners.
 unfoldable pub has : List ℕ → ℕ → Bool
@@ -34,7 +33,7 @@ face-corner q j x e =
 
 rest-within : (p q : Piece) (i j : ℕ) → i < 4 → faceWithin p i q j ≡ true → hasCorner q (cornerAt p i) ≡ cornersWithin p q
 unfolding faceWithin cornersWithin
-rest-within p q i j low e = both (hasCorner q (cornerAt p i)) (cornersWithin p q) (λ t. all-of Has 4 (λ k l. at k l t)) (λ t. all-at Has 4 i t low)
+rest-within p q i j low e = same-tests (hasCorner q (cornerAt p i)) (cornersWithin p q) (λ t. all-of Has 4 (λ k l. at k l t)) (λ t. all-at Has 4 i t low)
   where
     Has : ℕ → Bool
     Has k = hasCorner q (cornerAt p k)

@@ -8,7 +8,7 @@ use native.Mathlib.Omega.{arith}
 use lib.ListN.{length}
 use lib.Dec.{eqb, ltb}
 use borrow.Author.Tests.{eqb-true, eqb-false, eq-eqb, ne-eqb, ltb-true, ltb-false, not-true}
-use Rattle.laws.specs.Below.{foldBelow, allBelow, firstBelow, all-at, and-left, and-right, or-second, or-left-false, or-right-false, either}
+use Rattle.laws.specs.Below.{same-tests, foldBelow, allBelow, firstBelow, all-at, and-left, and-right, or-second, or-left-false, or-right-false, either}
 use Rattle.laws.specs.Pairs.{SamePair}
 use Rattle.piece_edges.specs.Edges.{lowSlot, highSlot, hasSlot, joins, edgeBetween, onFace, opposite, slots-small}
 use Rattle.piece_edges.specs.Tables.{has-slot, has-low, has-high}
@@ -16,7 +16,6 @@ use Rattle.piece.specs.Shape.{Shape, mark, markFits, flagFits, validShape, Vali
 use Rattle.piece.specs.Every.{onlyIf, onlyIf-holds}
 use Rattle.cuts_names.specs.Names.{Name, mid, mid-sym, mid-injective, level}
 use Rattle.cuts_names.specs.Pieces.{Piece, Side, renamed, midOf, pieceDown}
-use Rattle.cuts_names.specs.Lists.{same-tests}
 use Rattle.cuts_names.specs.Base.{Different, HasCorner, OnFace, SameFace, markedAt}
 use Rattle.cuts_names.specs.Three.{formal, formalDown, standsFor, Macro}
 use Rattle.cuts_names.specs.Macro.{down-stands, stands-corner, stands-past, stands-mid, old-level, new-level, mid-alike, formal-small}

@@ -7,8 +7,8 @@ use Prim.Native.Nat.{ℕ, zero, suc, _+_, _-_, _*_, _^_, _<_, _≤_}
 use native.Mathlib.Omega.{arith}
 use native.Mathlib.Nat.{two-pow-succ, one-le-pow}
 use lib.ListN.{length}
-use Rattle.laws.specs.Below.{anyBelow, any-is, any-where, or-true, or-second, either}
-use Rattle.cuts_names.specs.Lists.{both-ways, not-so, same-tests, among, without, anyOf, among-head, among-tail, without-keeps, without-within, without-gone, without-distinct, anyOf-where, anyOf-is}
+use Rattle.laws.specs.Below.{same-tests, anyBelow, any-is, any-where, or-true, or-second, either}
+use Rattle.cuts_names.specs.Lists.{both-ways, not-so, among, without, anyOf, among-head, among-tail, without-keeps, without-within, without-gone, without-distinct, anyOf-where, anyOf-is}
 use Rattle.cuts_names.specs.Names.{Name, sameName, name-equality}
 use Rattle.cuts_names.specs.Pieces.{Piece, Side, low, high, Node, generation, kid, pieceAt, makes, midOf}
 use Rattle.cuts.specs.Sets.{Cuts, There, Leaf, Within, HangsAt, Hangs, NoneHangs}

@@ -8,9 +8,9 @@ use native.Mathlib.Omega.{arith}
 use lib.ListN.{length}
 use lib.Dec.{ltb}
 use borrow.Author.Tests.{ltb-false, lt-ltb, le-ltb, not-true}
-use Rattle.laws.specs.Below.{either, and-left, and-right, any-is, any-where, countBelow, count-none, count-suc}
+use Rattle.laws.specs.Below.{same-tests, either, and-left, and-right, any-is, any-where, countBelow, count-none, count-suc}
 use Rattle.piece_edges.specs.Edges.{lowSlot, highSlot, slots-small}
-use Rattle.cuts_names.specs.Lists.{among, same-tests}
+use Rattle.cuts_names.specs.Lists.{among}
 use Rattle.cuts_names.specs.Names.{Name, mid-injective, sameName, name-equality}
 use Rattle.cuts_names.specs.Pieces.{Side, Node, kid, pieceAt, makes}
 use Rattle.cuts.specs.Sets.{Cuts, There, Leaf, HangsAt}

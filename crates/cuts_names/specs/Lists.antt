@@ -22,11 +22,6 @@ pub not-so : (b : Bool) → (b ≡ true → ⊥) → b ≡ false
 not-so true h = absurd (h refl)
 not-so false h = refl
 
--- Two tests that hold in the same cases are the same.
-pub same-tests : (a b : Bool) → (a ≡ true → b ≡ true) → (b ≡ true → a ≡ true) → a ≡ b
-same-tests true b f g = sym (f refl)
-same-tests false b f g = sym (not-so b (λ e. both-ways (g e) refl))
-
 -- Where both have a property, whichever is taken has it.
 pub either-has : {A : Type 0} (P : A → Type 0) (b : Bool) (x y : A) → P x → P y → P (cond b x y)
 either-has P true x y p q = p

@@ -50,6 +50,12 @@ pub either : (b : Bool) → (b ≡ true) ⊎ (b ≡ false)
 either true = inl refl
 either false = inr refl
 
+-- Two tests that hold in the same cases are the same.
+pub same-tests : (a b : Bool) → (a ≡ true → b ≡ true) → (b ≡ true → a ≡ true) → a ≡ b
+same-tests true b there back = sym (there refl)
+same-tests false true there back = absurd (false≢true (back refl))
+same-tests false false there back = refl
+
 -- Of a number below suc n: it is n, or it is below n.
 last-or-before : {k n : ℕ} → k < suc n → (k ≡ n) ⊎ (k < n)
 last-or-before h = eq-or-lt-of-le (le-of-suc-le-suc h)

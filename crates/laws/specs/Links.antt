@@ -343,6 +343,34 @@ module _ (key : ℕ → ℕ) (n : ℕ) (links : Links) (c : Chain key n (links .
       rw (pushed-past links (key n) n past) (left-out past))
       (either (ltb (key n) (length (links .heads))))
 
+-- ---- kept in two lists
+
+-- The links of the numbers below n, with so many keys and room for so many numbers.
+pub record Kept (key : ℕ → ℕ) (keys room n : ℕ) (links : Links) : Type 0 where
+  pub chain : Chain key n (links .heads) (links .nexts)
+  pub heads-long : length (links .heads) ≡ keys
+  pub nexts-long : length (links .nexts) ≡ room
+
+-- Of none.
+pub kept-none : (key : ℕ → ℕ) (keys room : ℕ) → Kept key keys room 0 (linksOf (replicate keys 0) (replicate room 0))
+kept-none key keys room =
+    record {
+      chain = chain-start key (replicate keys 0) (replicate room 0) (zeros-at keys);
+      heads-long = length-replicate {A = ℕ} keys 0;
+      nexts-long = length-replicate {A = ℕ} room 0;
+    }
+
+-- Of one number more.
+pub kept-next : (key : ℕ → ℕ) (keys room n next k : ℕ) (links : Links) → Kept key keys room n links → n < room → n < greatest → next ≡ suc n → k ≡ key n → Kept key keys room next (pushed links k n)
+kept-next key keys room n next k links on low small is at =
+    let there : n < length (links .nexts) = rw (on .nexts-long) low in
+    rw (is, at)
+    (record {
+      chain = chain-pushed key n links (on .chain) there small;
+      heads-long = pushed-heads-long links (key n) n ∙ on .heads-long;
+      nexts-long = pushed-nexts-long links (key n) n ∙ on .nexts-long;
+    })
+
 -- From empty links on, one number after the other.
 pub chain-linked : (key : ℕ → ℕ) (start : Links) (n : ℕ) → ((k : ℕ) → getD (start .heads) k 0 ≡ 0) → n ≤ length (start .nexts) → n ≤ greatest → Chain key n (linkedBelow key start n .heads) (linkedBelow key start n .nexts)
 chain-linked key start zero clear room small = rw linked-none (chain-start key (start .heads) (start .nexts) clear)

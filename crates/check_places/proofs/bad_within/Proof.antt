@@ -6,11 +6,12 @@ use mathlib.Core.Path.{_≡_, sym, _∙_}
 use mathlib.Core.Bool.{false}
 use native.Mathlib.Omega.{arith}
 use Rattle.laws.specs.Below.{anyBelow, any-none, any-next, any-is, any-end}
+use Rattle.laws.specs.Links.{kept-none}
 use Rattle.stored.specs.Layout.{limits}
 use Rattle.check_refusals.specs.Tables.{tables}
 use Rattle.check_refusals.specs.Refusals.{badVertex, badVertices}
 use Rattle.check_parents.specs.Pairs.{pairHeads, keyOf}
-use Rattle.check_places.specs.Kept.{placeHeads, placeKeyOf, Kept, kept-none, kept-next}
+use Rattle.check_places.specs.Kept.{placeHeads, placeKeyOf, VerticesKept, vertex-kept}
 use Rattle.check_places.proofs.bad_within.Statement.{statement}
 use Rattle.check_places.proofs.bad_within.Tie as tie
 
@@ -18,14 +19,14 @@ abbrev Inv-loop : tie.InvT-loop
 Inv-loop h l base grown place-heads₀ place-nexts₀ pair-heads₀ pair-nexts₀ count v₀ place-heads place-nexts pair-heads pair-nexts v =
     (v ≤ h .vertices)
     × (anyBelow v (badVertex (tables h l base grown)) ≡ false)
-    × Kept (placeKeyOf (tables h l base grown)) placeHeads v place-heads place-nexts
-    × Kept (keyOf (tables h l base grown)) pairHeads v pair-heads pair-nexts
+    × VerticesKept (placeKeyOf (tables h l base grown)) placeHeads v place-heads place-nexts
+    × VerticesKept (keyOf (tables h l base grown)) pairHeads v pair-heads pair-nexts
 
 abbrev μ-loop : tie.MeasureT-loop
 μ-loop h l base grown place-heads₀ place-nexts₀ pair-heads₀ pair-nexts₀ count v₀ place-heads place-nexts pair-heads pair-nexts v = h .vertices - v
 
 loop-holds : tie.Need-loop-holds Inv-loop μ-loop
-loop-holds c = (omega arith, any-none _, kept-none _ placeHeads, kept-none _ pairHeads)
+loop-holds c = (omega arith, any-none _, kept-none _ placeHeads (limits .vertices), kept-none _ pairHeads (limits .vertices))
 
 bad-vertex-requires : tie.Need-bad-vertex-requires Inv-loop μ-loop
 bad-vertex-requires c κs = (c .before .before .before .before .before .loop .inv .2, c .before .before .before .before .before .loop .inv .3)
@@ -39,8 +40,8 @@ loop-again c =
     let room : c .before .before .before .before .before .before .before .before .before .before .before .before .before .before .before .before .before .loop .v < limits .vertices = omega (arith, c .before .before .before .before .before .before .before .before .before .before .before .before .before .before .before .before .loop-test .taken, c .before .before .before .before .before .before .before .before .before .before .before .before .before .before .before .before .before .before .before .before .before .pre .vertices) in (
       omega arith,
       any-next _ _ (c .before .before .before .before .before .before .before .before .before .before .before .before .before .before .before .before .before .loop .inv .1) (sym (c .before .before .before .before .before .before .before .before .before .before .before .bad-vertex .ensures) ∙ c .before .before .before .before .before .before .before .before .before .before .if1 .left),
-      kept-next _ _ _ _ _ _ _ (c .before .before .before .before .before .before .before .before .before .before .before .before .before .before .before .before .before .loop .inv .2) room (c .before .before .before .before .before .before .before .link-place .ensures .0) (c .before .before .before .before .before .before .before .link-place .ensures .1),
-      kept-next _ _ _ _ _ _ _ (c .before .before .before .before .before .before .before .before .before .before .before .before .before .before .before .before .before .loop .inv .3) room (c .before .before .link-vertex .ensures .0) (c .before .before .link-vertex .ensures .1),
+      vertex-kept _ _ _ _ _ _ _ (c .before .before .before .before .before .before .before .before .before .before .before .before .before .before .before .before .before .loop .inv .2) room (c .before .before .before .before .before .before .before .link-place .ensures .0) (c .before .before .before .before .before .before .before .link-place .ensures .1),
+      vertex-kept _ _ _ _ _ _ _ (c .before .before .before .before .before .before .before .before .before .before .before .before .before .before .before .before .before .loop .inv .3) room (c .before .before .link-vertex .ensures .0) (c .before .before .link-vertex .ensures .1),
     )
 
 returns-2 : tie.Need-returns-2 Inv-loop μ-loop
