@@ -12,7 +12,8 @@ use lib.IntN.{ℤ}
 use Rattle.laws.specs.Below.{foldBelow, anyBelow, any-fails-at, any-fails, any-is, first-is, either}
 use Rattle.piece_edges.specs.Edges.{lowSlot, highSlot, hasSlot, onFace}
 use Rattle.piece.specs.declared.Piece.{Piece}
-use Rattle.piece.specs.Ends.{cornerAt, lowerEnd, higherEnd, endsOf}
+use Rattle.piece.specs.declared.Ends.{Ends}
+use Rattle.piece.specs.Ends.{cornerAt, between, lowerEnd, higherEnd, endsOf}
 use Rattle.grid.specs.declared.Place.{Place}
 use Rattle.grid.specs.Places.{pointOf}
 use Rattle.grid_lengths.specs.declared.Ranked.{Ranked}
@@ -29,7 +30,7 @@ unfoldable pub edgeFor : ℕ → ℕ → ℕ → Place → Place → Edge
 edgeFor code u v a b =
     record {
       code = code;
-      rank = record { length = squaredLength (pointOf a) (pointOf b); lower = cond (ltb u v) u v; higher = cond (ltb u v) v u };
+      rank = record { length = squaredLength (pointOf a) (pointOf b); lower = between u v .lower; higher = between u v .higher };
     }
 
 -- Edge e of a piece.
@@ -40,17 +41,20 @@ pub edge-is : (coordinates : List ℤ) (p : Piece) (e : ℕ) →
     let u = cornerAt p (lowSlot e) in
     let v = cornerAt p (highSlot e) in
     edgeFor e u v (plainPlace coordinates u) (plainPlace coordinates v) ≡ edgeOf coordinates p e
-unfolding edgeFor rankOf endsOf lowerEnd higherEnd
+unfolding edgeFor between rankOf endsOf lowerEnd higherEnd
 edge-is coordinates p e = go (ltb (cornerAt p (lowSlot e)) (cornerAt p (highSlot e)))
   where
     at : ℕ → Place
     at k = plainPlace coordinates (cornerAt p k)
 
+    ends : Bool → Ends
+    ends b = let j = cornerAt p (lowSlot e) in let k = cornerAt p (highSlot e) in cond b (record { lower = j; higher = k }) (record { lower = k; higher = j })
+
     go : (b : Bool) →
         let j = lowSlot e in
         let k = highSlot e in
         _≡_ {A = Edge}
-        (record { code = e; rank = record { length = squaredLength (pointOf (at j)) (pointOf (at k)); lower = cond b (cornerAt p j) (cornerAt p k); higher = cond b (cornerAt p k) (cornerAt p j) } })
+        (record { code = e; rank = record { length = squaredLength (pointOf (at j)) (pointOf (at k)); lower = ends b .lower; higher = ends b .higher } })
         (record { code = e; rank = record { length = squaredLength (pointOf (at (cond b j k))) (pointOf (at (cond b k j))); lower = cornerAt p (cond b j k); higher = cornerAt p (cond b k j) } })
     go true = refl
     go false =

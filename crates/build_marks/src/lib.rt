@@ -90,21 +90,11 @@ fn edge_between(code: u8, u: u32, v: u32, a: Place, b: Place) -> Edge
     ensures { λ r. ⌜ r ≡ edgeFor code u v a b ⌝ }
 {
     let length = grid_lengths::squared_length(a, b);
-    if u < v {
-        let rank = Ranked {
-            length: length,
-            lower: u,
-            higher: v,
-        };
-        return Edge {
-            code: code,
-            rank: rank,
-        };
-    }
+    let ends = piece::ends_between(u, v);
     let rank = Ranked {
         length: length,
-        lower: v,
-        higher: u,
+        lower: ends.lower,
+        higher: ends.higher,
     };
     Edge {
         code: code,

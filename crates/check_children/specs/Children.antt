@@ -1,16 +1,15 @@
 -- The first table that refusal 9 keeps: how often each record is the child of a cut one.
 use mathlib.Core.Path.{_≡_, sym, _∙_}
 use mathlib.Core.Bool.{Bool, not, cond, _&&_, _||_}
-use mathlib.Core.Logic.{⊎-elim, _≢_}
+use mathlib.Core.Logic.{⊎-elim}
 use mathlib.Core.List.{List}
 use Prim.Native.Nat.{ℕ, _+_, _≤_, _<_}
 use native.Mathlib.Omega.{arith}
 use lib.ListN.{length, getD, replicate}
-use lib.Seq.{getD-set-other}
-use lib.Dec.{eqb, leb, ltb}
+use lib.Dec.{eqb, leb}
 use borrow.Author.Tests.{eqb-true, eqb-false, eq-eqb, ne-eqb}
 use Rattle.laws.specs.Below.{anyBelow, any-same, countBelow, bit, either}
-use Rattle.laws.specs.Links.{greatest, countedAt, counted-at, counted-long}
+use Rattle.laws.specs.Links.{greatest, countedAt, counted-at, counted-other, counted-long}
 use Rattle.stored.specs.declared.Record.{Record}
 use Rattle.stored.specs.Layout.{limits}
 use Rattle.check_refusals.specs.Tables.{Tables, baseRecords, allRecords, pieceAt, uncut}
@@ -23,15 +22,6 @@ unfoldable pub childrenCounted : List ℕ → Record → List ℕ
 childrenCounted times r =
     let both = countedAt (countedAt times (r .«first_child»)) (r .«first_child» + 1) in
     cond (uncut r) times both
-
--- At another entry the table says what it said.
-counted-other : (t : List ℕ) (x c : ℕ) → c ≢ x → getD (countedAt t x) c 0 ≡ getD t c 0
-unfolding countedAt
-counted-other t x c apart =
-    ⊎-elim
-    (λ y. rw y (getD-set-other t x c (getD t x 0 + 1) 0 apart))
-    (λ f. rw f)
-    (either (ltb x (length t) && ltb (getD t x 0) greatest))
 
 -- A number is at most one of two that follow each other.
 one-of-two : (a x : ℕ) → bit (eqb x a) + bit (eqb x (a + 1)) ≡ bit (eqb a x || eqb (a + 1) x)

@@ -1,23 +1,23 @@
 -- The second table that refusal 9 keeps: how often each vertex is the one halfway on a cut record's refinement edge. Of several vertices with the same parents
 -- the first counts for all of them.
 use mathlib.Core.Path.{_≡_, refl, sym, ap, _∙_}
-use mathlib.Core.Bool.{Bool, true, not, cond, _&&_, false≢true}
+use mathlib.Core.Bool.{Bool, true, not, cond, _&&_, _||_, false≢true, or-false}
 use mathlib.Core.Logic.{⊎-elim}
 use mathlib.Core.List.{List}
-use Prim.Native.Nat.{ℕ, _+_, _<_}
+use Prim.Native.Nat.{ℕ, _<_}
 use native.Mathlib.Omega.{arith}
 use lib.ListN.{length, getD, replicate}
 use lib.Dec.{eqb, leb}
-use borrow.Author.Tests.{eqb-true, eq-eqb, ne-eqb, lt-ltb}
-use Rattle.laws.specs.Below.{anyBelow, any-same, any-is, any-first, first-where, bit, and-left, and-right, either}
-use Rattle.laws.specs.Links.{greatest, countedAt, counted-at, counted-long}
+use borrow.Author.Tests.{eq-eqb, ne-eqb, lt-ltb}
+use Rattle.laws.specs.Below.{anyBelow, any-same, any-is, any-first, first-where, either}
+use Rattle.laws.specs.Links.{countedAt, counted-long}
 use Rattle.piece.specs.declared.Ends.{Ends}
 use Rattle.stored.specs.Layout.{limits}
 use Rattle.check_refusals.specs.Tables.{Tables, baseVertices, allVertices, allRecords, pieceAt, isLeaf, isCut, hasParents, vertexWith, refinementEnds}
 use Rattle.check_refusals.specs.Bounded.{Room}
 use Rattle.check_refusals.specs.Refusals.{isMidpointOf, noMidpoint}
-use Rattle.check_parents.specs.Pairs.{parentEnds}
-use Rattle.laws.specs.Counts.{Counting, countsBelow, counts-is, none-counted}
+use Rattle.check_parents.specs.Pairs.{parentEnds, parents-are}
+use Rattle.laws.specs.Counts.{countsBelow, marked, counted-marked, Marking, counts-zero}
 
 -- One more at the vertex halfway on record n's refinement edge, if the record is cut.
 unfoldable pub midpointCounted : Tables → List ℕ → ℕ → List ℕ
@@ -25,36 +25,24 @@ midpointCounted m used n =
     let more = countedAt used (vertexWith m (refinementEnds (pieceAt m n))) in
     cond (isLeaf m n) used more
 
-pub midpoint-counting : (m : Tables) → Counting (midpointCounted m) (λ n x. isCut m n && eqb x (vertexWith m (refinementEnds (pieceAt m n))))
+pub midpoint-marking : (m : Tables) → Marking (midpointCounted m) (λ n x. isCut m n && eqb (vertexWith m (refinementEnds (pieceAt m n))) x)
 unfolding midpointCounted
-midpoint-counting m = record { long = long; more = more }
+midpoint-marking m = record { long = long; marks = marks }
   where
     long : (t : List ℕ) (n : ℕ) → length (midpointCounted m t n) ≡ length t
     long t n =
         ⊎-elim (λ u. rw u) (λ f. rw f (counted-long t (vertexWith m (refinementEnds (pieceAt m n))))) (either (isLeaf m n))
 
-    more : (t : List ℕ) (n x : ℕ) → x < length t → ((y : ℕ) → getD t y 0 < greatest) → getD (midpointCounted m t n) x 0 ≡ getD t x 0 + bit (isCut m n && eqb x (vertexWith m (refinementEnds (pieceAt m n))))
-    more t n x l small =
+    marks : (t : List ℕ) (n x : ℕ) → x < length t → marked (midpointCounted m t n) x ≡ (marked t x || (isCut m n && eqb (vertexWith m (refinementEnds (pieceAt m n))) x))
+    marks t n x l =
         let w = vertexWith m (refinementEnds (pieceAt m n)) in
-        ⊎-elim (λ u. rw u (omega arith)) (λ f. rw f (counted-at t w x l (small w))) (either (isLeaf m n))
+        ⊎-elim (λ u. rw u (sym (or-false (marked t x)))) (λ f. rw f (counted-marked t w x l)) (either (isLeaf m n))
 
 -- The table of all records.
 abbrev pub usedIn : Tables → List ℕ
 usedIn m = countsBelow (midpointCounted m) (replicate (limits .vertices) 0) (allRecords m)
 
 -- ---- vertices with the same parents
-
--- The parents of a vertex that has these.
-parents-are : (m : Tables) (ends : Ends) (v : ℕ) → hasParents m ends v ≡ true → parentEnds (m .vertexAt v) ≡ ends
-unfolding hasParents
-parents-are m ends v t =
-    let made = leb (baseVertices m) v in
-    let lower = eqb (m .vertexAt v .p) (ends .lower) in
-    let higher = eqb (m .vertexAt v .q) (ends .higher) in
-    let both = and-right made (lower && higher) t in
-    let p = eqb-true (m .vertexAt v .p) (ends .lower) (and-left lower higher both) in
-    let q = eqb-true (m .vertexAt v .q) (ends .higher) (and-right lower higher both) in
-    λ i. record { lower = p i; higher = q i }
 
 -- A made vertex, and the first that has its parents.
 module _ (m : Tables) (v : ℕ) (made : leb (baseVertices m) v ≡ true) (within : v < allVertices m) where
@@ -83,24 +71,23 @@ module _ (m : Tables) (v : ℕ) (made : leb (baseVertices m) v ≡ true) (within
       ∙ parents-are m ends (vertexWith m ends) (first-has ends (rw (← q) first-within))
 
   -- So v has a pair as its parents exactly if the first vertex with the pair is the first with v's own.
-  has-is : (ends : Ends) → hasParents m ends v ≡ eqb (vertexWith m own) (vertexWith m ends)
+  has-is : (ends : Ends) → hasParents m ends v ≡ eqb (vertexWith m ends) (vertexWith m own)
   unfolding own
   has-is ends =
       ⊎-elim
-      (λ t. t ∙ sym (eq-eqb (vertexWith m own) (vertexWith m ends) (ap (vertexWith m) (parents-are m ends v t))))
-      (λ f. f ∙ sym (ne-eqb (vertexWith m own) (vertexWith m ends) (λ q. false≢true (sym f ∙ ap (λ (e : Ends). hasParents m e v) (sym (same-ends ends q)) ∙ has-own))))
+      (λ t. t ∙ sym (eq-eqb (vertexWith m ends) (vertexWith m own) (sym (ap (vertexWith m) (parents-are m ends v t)))))
+      (λ f. f ∙ sym (ne-eqb (vertexWith m ends) (vertexWith m own) (λ q. false≢true (sym f ∙ ap (λ (e : Ends). hasParents m e v) (sym (same-ends ends (sym q))) ∙ has-own))))
       (either (hasParents m ends v))
 
   -- By the table: v is halfway on some cut record's refinement edge if the first with its parents has been counted.
   no-midpoint-made : Room (m .header) → eqb (getD (usedIn m) (vertexWith m own) 0) 0 ≡ not (anyBelow (allRecords m) (isMidpointOf m v))
   unfolding isMidpointOf
   no-midpoint-made room =
-      let P : ℕ → ℕ → Bool = λ n x. isCut m n && eqb x (vertexWith m (refinementEnds (pieceAt m n))) in
+      let P : ℕ → ℕ → Bool = λ n x. isCut m n && eqb (vertexWith m (refinementEnds (pieceAt m n))) x in
       let w = vertexWith m own in
       let below = first-within in
-      rw (counts-is (midpointCounted m) P (midpoint-counting m) (limits .vertices) (allRecords m) w (omega (arith, room .records)) (omega (arith, room .vertices)))
-      (none-counted (allRecords m) (λ n. P n w)
-      ∙ ap not (any-same (allRecords m) (λ n. P n w) (isMidpointOf m v) (λ n l. ap (λ (b : Bool). isCut m n && b) (sym (has-is (refinementEnds (pieceAt m n)))))))
+      counts-zero (midpointCounted m) P (midpoint-marking m) (limits .vertices) (allRecords m) w (omega (arith, room .vertices))
+      ∙ ap not (any-same (allRecords m) (λ n. P n w) (isMidpointOf m v) (λ n l. ap (λ (b : Bool). isCut m n && b) (sym (has-is (refinementEnds (pieceAt m n))))))
 
 -- By the table: a made vertex whose parents' first vertex has not been counted.
 unfoldable pub noMidpointBy : Tables → List ℕ → ℕ → Bool

@@ -63,18 +63,25 @@ pub pair-key-within : (ends : Ends) → pairKey ends < pairHeads
 unfolding pairKey
 pair-key-within ends = mod-lt (ends .lower * 31 + ends .higher) (lit< tt)
 
--- A vertex with a pair as its parents has the pair's key.
-pub has-key : (m : Tables) (ends : Ends) (v : ℕ) → hasParents m ends v ≡ true → keyOf m v ≡ pairKey ends
-unfolding hasParents keyOf
-has-key m ends v t =
+-- The parents of a vertex that has a pair as its parents.
+pub parents-are : (m : Tables) (ends : Ends) (v : ℕ) → hasParents m ends v ≡ true → parentEnds (m .vertexAt v) ≡ ends
+unfolding hasParents
+parents-are m ends v t =
     let made = leb (baseVertices m) v in
     let lower = eqb (m .vertexAt v .p) (ends .lower) in
     let higher = eqb (m .vertexAt v .q) (ends .higher) in
     let both = and-right made (lower && higher) t in
     let p = eqb-true (m .vertexAt v .p) (ends .lower) (and-left lower higher both) in
     let q = eqb-true (m .vertexAt v .q) (ends .higher) (and-right lower higher both) in
-    let same : parentEnds (m .vertexAt v) ≡ ends = λ i. record { lower = p i; higher = q i } in
-    rw (le-ltb v (baseVertices m) (leb-true (baseVertices m) v (and-left made (lower && higher) t))) (ap pairKey same)
+    λ i. record { lower = p i; higher = q i }
+
+-- It has the pair's key.
+pub has-key : (m : Tables) (ends : Ends) (v : ℕ) → hasParents m ends v ≡ true → keyOf m v ≡ pairKey ends
+unfolding hasParents keyOf
+has-key m ends v t =
+    let made = leb (baseVertices m) v in
+    let parents = eqb (m .vertexAt v .p) (ends .lower) && eqb (m .vertexAt v .q) (ends .higher) in
+    rw (le-ltb v (baseVertices m) (leb-true (baseVertices m) v (and-left made parents t))) (ap pairKey (parents-are m ends v t))
 
 -- A vertex's key goes by the base vertices' count and by the vertex alone.
 pub key-same : (m other : Tables) (v : ℕ) → baseVertices m ≡ baseVertices other → m .vertexAt v ≡ other .vertexAt v → keyOf m v ≡ keyOf other v

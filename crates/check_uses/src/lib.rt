@@ -2,46 +2,32 @@
 use stored::Header;
 use stored::Layout;
 ghost use mathlib.Core.Path.{_≡_};
-ghost use Prim.Native.Nat.{ℕ, _<_};
-ghost use lib.ListN.{getD, replicate};
-ghost use Rattle.stored.specs.Layout.{limits, recordIn};
+ghost use Rattle.laws.specs.Counts.{countsBelow};
+ghost use Rattle.stored.specs.Layout.{recordIn};
 ghost use Rattle.check_refusals.specs.Tables.{tables};
 ghost use Rattle.check_refusals.specs.Refusals.{unusedVertices};
 ghost use Rattle.check_refusals.specs.Bounded.{Room, orBeyond};
-ghost use Rattle.check_uses.specs.Uses.{usedAt, usedBy, usesAfter};
+ghost use Rattle.check_uses.specs.Uses.{usedBy};
 
-// One use more of vertex x, if the table has it.
-fn count_use(uses: &mut [u64], x: u32)
-    requires { ⌜ getD (now uses) x 0 < 1000000000000 ⌝ }
-    ensures { λ _. ⌜ now (uses .exit) ≡ usedAt (now (uses .entry)) x ⌝ }
-{
-    let at = x as usize;
-    if at < uses.len() {
-        uses[at] = uses[at] + 1;
-    }
-}
-
-fn count_corners(uses: &mut [u64], corners: [u32; 4])
-    requires { ⌜ ((k : ℕ) → getD (now uses) k 0 < 900000000000) ⌝ }
+// One use more of each of a piece's four corners, if the table has it.
+fn count_corners(uses: &mut [u16], corners: [u32; 4])
     ensures { λ _. ⌜ now (uses .exit) ≡ usedBy (now (uses .entry)) corners ⌝ }
 {
-    count_use(uses, corners[0]);
-    count_use(uses, corners[1]);
-    count_use(uses, corners[2]);
-    count_use(uses, corners[3]);
+    chains::count(uses, corners[0] as usize);
+    chains::count(uses, corners[1] as usize);
+    chains::count(uses, corners[2] as usize);
+    chains::count(uses, corners[3] as usize);
 }
 
-fn count_record<'a>(uses: &mut [u64], l: Layout, base: &'a [u8], grown: &'a [u8], n: usize)
-    requires { ⌜ ((k : ℕ) → getD (now uses) k 0 < 900000000000) ⌝ }
+fn count_record<'a>(uses: &mut [u16], l: Layout, base: &'a [u8], grown: &'a [u8], n: usize)
     ensures { λ _. ⌜ now (uses .exit) ≡ usedBy (now (uses .entry)) (recordIn l (now (base .entry)) (now (grown .entry)) n .piece .corners) ⌝ }
 {
     let corners = stored_entries::corners_in(l, base, grown, n);
     count_corners(uses, corners);
 }
 
-fn count_records<'a>(uses: &mut [u64], l: Layout, base: &'a [u8], grown: &'a [u8], count: usize)
-    requires { ⌜ (now uses ≡ replicate (limits .vertices) 0) × (count < 4294967296) ⌝ }
-    ensures { λ _. ⌜ now (uses .exit) ≡ usesAfter (λ r. recordIn l (now (base .entry)) (now (grown .entry)) r .piece) count ⌝ }
+fn count_records<'a>(uses: &mut [u16], l: Layout, base: &'a [u8], grown: &'a [u8], count: usize)
+    ensures { λ _. ⌜ now (uses .exit) ≡ countsBelow (λ t n. usedBy t (recordIn l (now (base .entry)) (now (grown .entry)) n .piece .corners)) (now (uses .entry)) count ⌝ }
 {
     let mut n: usize = 0;
     while n < count {
@@ -54,7 +40,7 @@ fn unused_by_table<'a>(h: Header, l: Layout, base: &'a [u8], grown: &'a [u8]) ->
     requires { ⌜ Room h ⌝ }
     ensures { λ r. ⌜ r ≡ unusedVertices (tables h l (now (base .entry)) (now (grown .entry))) ⌝ }
 {
-    let mut uses = [0u64; stored::VERTICES];
+    let mut uses = [0u16; stored::VERTICES];
     count_records(&mut uses, l, base, grown, h.base_records as usize);
     let count = h.base_vertices as usize;
     let mut v: usize = 0;

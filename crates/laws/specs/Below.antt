@@ -89,13 +89,6 @@ module _ (P : ℕ → Bool) where
   unfolding allBelow
   all-suc n = refl
 
-  pub all-next : (i : ℕ) → allBelow i P ≡ true → P i ≡ true → allBelow (i + 1) P ≡ true
-  all-next i inv here = rw (add-one, all-suc, inv, here)
-
-  -- where a loop came to the end
-  pub all-end : (n i : ℕ) → n ≤ i → i ≤ n → allBelow i P ≡ true → allBelow n P ≡ true
-  all-end n i h l all = subst (λ (j : ℕ). allBelow j P ≡ true) (le-antisymm l h) all
-
   -- it holds at each
   pub all-at : (n k : ℕ) → allBelow n P ≡ true → k < n → P k ≡ true
   all-at zero k e h = absurd (not-suc-le-zero h)
@@ -108,11 +101,6 @@ module _ (P : ℕ → Bool) where
   pub all-of : (n : ℕ) → ((k : ℕ) → k < n → P k ≡ true) → allBelow n P ≡ true
   all-of zero f = all-none
   all-of (suc n) f = all-suc n ∙ ap₂ _&&_ (all-of n (λ k l. f k (omega arith))) (f n (le-refl (suc n)))
-
-  -- one that fails
-  pub all-fails : (n k : ℕ) → k < n → P k ≡ false → allBelow n P ≡ false
-  all-fails n k h e =
-      ⊎-elim (λ t. absurd (true≢false (sym (all-at n k t h) ∙ e))) (λ f. f) (either (allBelow n P))
 
 -- ---- any
 
@@ -278,10 +266,6 @@ module _ (P : ℕ → Bool) where
       let e′ : (anyBelow n P || P n) ≡ false = sym (any-suc P n) ∙ e in
       let none : firstBelow n P ≡ n = first-no n (or-left-false (anyBelow n P) (P n) e′) in
       rw (none, le-ltb n n (le-refl n), or-right-false (anyBelow n P) (P n) e′)
-
-  -- where a loop came to the end and passed none
-  pub first-end : (n i : ℕ) → n ≤ i → i ≤ n → anyBelow i P ≡ false → firstBelow n P ≡ n
-  first-end n i h l none = first-no n (subst (λ (j : ℕ). anyBelow j P ≡ false) (le-antisymm l h) none)
 
   -- where it is k
   pub first-is : (n k : ℕ) → k < n → anyBelow k P ≡ false → P k ≡ true → firstBelow n P ≡ k

@@ -1,7 +1,7 @@
 -- A table of counts that is filled one number after the other, each of which counts one more at some entries: every entry then says how many have counted there,
 -- and whether any has, however many there are.
 use mathlib.Core.Path.{_≡_, refl, sym, ap, _∙_}
-use mathlib.Core.Bool.{Bool, not, _||_, or-false}
+use mathlib.Core.Bool.{Bool, true, false, not, _||_, or-false}
 use mathlib.Core.Logic.{⊎-elim}
 use mathlib.Core.List.{List}
 use Prim.Native.Nat.{ℕ, zero, suc, _+_, _≤_, _<_}
@@ -11,7 +11,7 @@ use native.Mathlib.Omega.{arith}
 use lib.ListN.{length, getD, replicate, length-replicate, getD-replicate, List·getD-eq-default}
 use lib.Dec.{eqb, ltb}
 use borrow.Author.Tests.{eqb-true, eqb-false, eq-eqb, ne-eqb, ltb-true, ltb-false}
-use Rattle.laws.specs.Below.{sum-at-most, sum-at-least, anyBelow, any-none, any-suc, any-where, any-fails-at, countBelow, count-none, count-suc, count-at-most, bit, or-true, either}
+use Rattle.laws.specs.Below.{anyBelow, any-none, any-suc, countBelow, count-none, count-suc, count-at-most, bit, or-true, either}
 use Rattle.laws.specs.Links.{greatest, countedAt, counted-full, counted-long, counted-at}
 
 -- The table after the numbers below n, each of which has changed it by add.
@@ -35,24 +35,26 @@ module _ (add : List ℕ → ℕ → List ℕ) (start : List ℕ) where
   pub counts-end : (n i : ℕ) (t : List ℕ) → n ≤ i → i ≤ n → t ≡ countsBelow add start i → t ≡ countsBelow add start n
   counts-end n i t h l inv = inv ∙ ap (countsBelow add start) (le-antisymm l h)
 
+-- The table stays as long as it is.
+pub counts-long : (add : List ℕ → ℕ → List ℕ) → ((t : List ℕ) (k : ℕ) → length (add t k) ≡ length t) → (start : List ℕ) (n : ℕ) → length (countsBelow add start n) ≡ length start
+counts-long add long start zero = rw (counts-none add start)
+counts-long add long start (suc n) = rw (counts-suc add start n) (long (countsBelow add start n) n ∙ counts-long add long start n)
+
+-- ---- how many have counted
+
 -- Number k counts one more at each x with P k x, as long as every count has room for it.
 pub record Counting (add : List ℕ → ℕ → List ℕ) (P : ℕ → ℕ → Bool) : Type 0 where
   pub long : (t : List ℕ) (k : ℕ) → length (add t k) ≡ length t
   pub more : (t : List ℕ) (k x : ℕ) → x < length t → ((y : ℕ) → getD t y 0 < greatest) → getD (add t k) x 0 ≡ getD t x 0 + bit (P k x)
 
 module _ (add : List ℕ → ℕ → List ℕ) (P : ℕ → ℕ → Bool) (c : Counting add P) where
-  -- The table stays as long as it is.
-  pub counts-long : (start : List ℕ) (n : ℕ) → length (countsBelow add start n) ≡ length start
-  counts-long start zero = rw (counts-none add start)
-  counts-long start (suc n) = rw (counts-suc add start n) (c .long (countsBelow add start n) n ∙ counts-long start n)
-
   -- The table after the numbers below n, which was empty at first.
   table : ℕ → ℕ → List ℕ
   table room n = countsBelow add (replicate room 0) n
 
   table-long : (room n : ℕ) → length (table room n) ≡ room
   unfolding table
-  table-long room n = counts-long (replicate room 0) n ∙ length-replicate {A = ℕ} room 0
+  table-long room n = counts-long add (c .long) (replicate room 0) n ∙ length-replicate {A = ℕ} room 0
 
   -- No count is greater than the number of those that have counted.
   few : (room n : ℕ) → ((x : ℕ) → x < room → getD (table room n) x 0 ≡ countBelow n (λ k. P k x)) → (y : ℕ) → getD (table room n) y 0 ≤ n
@@ -74,33 +76,14 @@ module _ (add : List ℕ → ℕ → List ℕ) (P : ℕ → ℕ → Bool) (c : C
       rw (counts-suc add (replicate room 0) n, count-suc (λ k. P k x) n)
       (c .more (table room n) n x (rw (table-long room n) l) small ∙ ap (λ (b : ℕ). b + bit (P n x)) (before x l))
 
--- None is counted exactly if there is none.
-pub none-counted : (n : ℕ) (P : ℕ → Bool) → eqb (countBelow n P) 0 ≡ not (anyBelow n P)
-unfolding countBelow
-none-counted n P =
-    ⊎-elim
-    (λ t.
-    let (k, l, e) = any-where P n t in
-    let one : bit (P k) ≡ 1 = ap bit e in
-    let least = sum-at-least (λ j. bit (P j)) n k l in
-    rw t (ne-eqb (countBelow n P) 0 (λ q. omega arith)))
-    (λ f.
-    let none = sum-at-most (λ j. bit (P j)) n 0 (λ k l. omega (arith, ap bit (any-fails-at P n k f l))) in
-    rw f (eq-eqb (countBelow n P) 0 (omega arith)))
-    (either (anyBelow n P))
-
--- ---- one number counts at one entry
+-- ---- whether any has
 
 -- x has been counted.
 abbrev pub marked : List ℕ → ℕ → Bool
 marked counts x = not (eqb (getD counts x 0) 0)
 
--- Each number k counts one more at key k.
-pub key-counting : (key : ℕ → ℕ) → Counting (λ t k. countedAt t (key k)) (λ k x. eqb x (key k))
-key-counting key = record { long = λ t k. counted-long t (key k); more = λ t k x l s. counted-at t (key k) x l (s (key k)) }
-
--- A count that is full stays: what has been counted stays so.
-counted-marked : (counts : List ℕ) (x c : ℕ) → c < length counts → marked (countedAt counts x) c ≡ (marked counts c || eqb x c)
+-- One more at x: what has been counted stays so, also where a count is full.
+pub counted-marked : (counts : List ℕ) (x c : ℕ) → c < length counts → marked (countedAt counts x) c ≡ (marked counts c || eqb x c)
 counted-marked counts x c l =
     ⊎-elim
     (λ t. rw (counted-at counts x c l (ltb-true (getD counts x 0) greatest t)) (one-more (getD counts c 0) x c))
@@ -123,11 +106,29 @@ counted-marked counts x c l =
         (λ f. rw f (sym (or-false (marked counts c))))
         (either (eqb x c))
 
--- An entry of a table that was empty at first has been counted exactly if some number's key is that.
-pub counts-marked : (key : ℕ → ℕ) (room n x : ℕ) → x < room → marked (countsBelow (λ t k. countedAt t (key k)) (replicate room 0) n) x ≡ anyBelow n (λ k. eqb (key k) x)
-counts-marked key room zero x l = rw (counts-none (λ t k. countedAt t (key k)) (replicate room 0), any-none (λ k. eqb (key k) x), getD-replicate {A = ℕ} room x 0 0 l)
-counts-marked key room (suc n) x l =
-    let add : List ℕ → ℕ → List ℕ = λ t k. countedAt t (key k) in
-    let long = counts-long add (λ k x. eqb x (key k)) (key-counting key) (replicate room 0) n ∙ length-replicate {A = ℕ} room 0 in
-    rw (counts-suc add (replicate room 0) n, any-suc (λ k. eqb (key k) x) n)
-    (counted-marked (countsBelow add (replicate room 0) n) (key n) x (rw long l) ∙ ap (λ (b : Bool). b || eqb (key n) x) (counts-marked key room n x l))
+-- Number k counts at each x with P k x, however often.
+pub record Marking (add : List ℕ → ℕ → List ℕ) (P : ℕ → ℕ → Bool) : Type 0 where
+  pub long : (t : List ℕ) (k : ℕ) → length (add t k) ≡ length t
+  pub marks : (t : List ℕ) (k x : ℕ) → x < length t → marked (add t k) x ≡ (marked t x || P k x)
+
+module _ (add : List ℕ → ℕ → List ℕ) (P : ℕ → ℕ → Bool) (c : Marking add P) where
+  -- An entry of a table that was empty at first has been counted exactly if some number has counted there.
+  pub counts-marked : (room n x : ℕ) → x < room → marked (countsBelow add (replicate room 0) n) x ≡ anyBelow n (λ k. P k x)
+  counts-marked room zero x l = rw (counts-none add (replicate room 0), any-none (λ k. P k x), getD-replicate {A = ℕ} room x 0 0 l)
+  counts-marked room (suc n) x l =
+      let before = countsBelow add (replicate room 0) n in
+      let long = counts-long add (c .long) (replicate room 0) n ∙ length-replicate {A = ℕ} room 0 in
+      rw (counts-suc add (replicate room 0) n, any-suc (λ k. P k x) n)
+      (c .marks before n x (rw long l) ∙ ap (λ (b : Bool). b || P n x) (counts-marked room n x l))
+
+  -- And it is 0 exactly if none has.
+  pub counts-zero : (room n x : ℕ) → x < room → eqb (getD (countsBelow add (replicate room 0) n) x 0) 0 ≡ not (anyBelow n (λ k. P k x))
+  counts-zero room n x l = turned (eqb (getD (countsBelow add (replicate room 0) n) x 0) 0) (anyBelow n (λ k. P k x)) (counts-marked room n x l)
+    where
+      turned : (a b : Bool) → not a ≡ b → a ≡ not b
+      turned true b e = ap not e
+      turned false b e = ap not e
+
+-- Each number k counts at key k alone.
+pub key-marking : (key : ℕ → ℕ) → Marking (λ t k. countedAt t (key k)) (λ k x. eqb (key k) x)
+key-marking key = record { long = λ t k. counted-long t (key k); marks = λ t k x l. counted-marked t (key k) x l }

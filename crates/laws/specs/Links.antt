@@ -170,13 +170,6 @@ module _ (nexts : List ℕ) (P : ℕ → Bool) where
   first-along-past zero o h = absurd (omega arith)
   first-along-past (suc u) o h = let e : suc u - 1 ≡ u = omega arith in rw (e, first-along-on u o)
 
--- What is found goes by P's values alone.
-pub any-along-same : (nexts : List ℕ) (P Q : ℕ → Bool) (m : ℕ) → ((u : ℕ) → P u ≡ Q u) → anyAlong nexts P m ≡ anyAlong nexts Q m
-any-along-same nexts P Q m same = ap (λ (R : ℕ → Bool). anyAlong nexts R m) (λ i u. same u i)
-
-pub first-along-same : (nexts : List ℕ) (P Q : ℕ → Bool) (m otherwise : ℕ) → ((u : ℕ) → P u ≡ Q u) → firstAlong nexts P m otherwise ≡ firstAlong nexts Q m otherwise
-first-along-same nexts P Q m otherwise same = ap (λ (R : ℕ → Bool). firstAlong nexts R m otherwise) (λ i u. same u i)
-
 -- ---- chains
 
 -- The links are those of the numbers below n: at each key that the heads have stands the last number with it, and at each of these numbers the last one
@@ -568,3 +561,12 @@ counted-at table x c h s =
     (λ d. rw (counted-past table x (ltb-false x (length table) d)) none)
     (either (ltb x (length table)))))
     (either (eqb c x))
+
+-- At another entry it says what it said.
+pub counted-other : (table : List ℕ) (x c : ℕ) → c ≢ x → getD (countedAt table x) c 0 ≡ getD table c 0
+unfolding countedAt
+counted-other table x c apart =
+    ⊎-elim
+    (λ t. rw t (getD-set-other table x c (getD table x 0 + 1) 0 apart))
+    (λ f. rw f)
+    (either (ltb x (length table) && ltb (getD table x 0) greatest))

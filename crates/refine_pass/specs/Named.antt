@@ -6,8 +6,9 @@ use Prim.Native.Nat.{ℕ, zero, suc, _≤_, _<_}
 use native.Mathlib.Nat.{le-refl}
 use native.Mathlib.Omega.{arith}
 use lib.ListN.{replicate}
+use lib.Dec.{eqb}
 use Rattle.laws.specs.Links.{countedAt}
-use Rattle.laws.specs.Counts.{countsBelow, marked, counts-marked}
+use Rattle.laws.specs.Counts.{countsBelow, marked, counts-marked, key-marking}
 use Rattle.stored.specs.declared.Limits.{Limits}
 use Rattle.stored.specs.declared.Layout.{Layout}
 use Rattle.stored.specs.Layout.{limits, namedIn}
@@ -22,7 +23,7 @@ tableOf selection count = countsBelow (λ t i. countedAt t (namedIn selection i)
 -- What it says of each possible record.
 pub named-is : (selection : List ℕ) (count : ℕ) (named : List ℕ) → named ≡ tableOf selection count → (n : ℕ) → n < limits .records → marked named n ≡ isNamed count (namedIn selection) n
 unfolding isNamed
-named-is selection count named is n l = ap (λ (t : List ℕ). marked t n) is ∙ counts-marked (namedIn selection) (limits .records) count n l
+named-is selection count named is n l = ap (λ (t : List ℕ). marked t n) is ∙ counts-marked (λ t i. countedAt t (namedIn selection i)) (λ i x. eqb (namedIn selection i) x) (key-marking (namedIn selection)) (limits .records) count n l
 
 module _ (most : Limits) (l : Layout) where
   -- A pass goes by what is chosen of the records that there are.

@@ -19,7 +19,7 @@ use Rattle.stored.specs.declared.Header.{Header}
 use Rattle.stored.specs.declared.Vertex.{Vertex}
 use Rattle.stored.specs.declared.Record.{Record}
 use Rattle.stored.specs.declared.Selection.{Selection}
-use Rattle.stored.specs.Layout.{none, storedNone, orNone, storedOrNone, u16At, allVertices, allRecords, headerOf, vertexFrom, recordFrom, heldIn, baseInto, grownInto, vertexIn, recordIn, layoutOf, Mesh, meshOf}
+use Rattle.stored.specs.Layout.{none, storedNone, orNone, storedOrNone, u16At, allVertices, allRecords, headerOf, vertexFrom, cornersFrom, recordFrom, heldIn, baseInto, grownInto, vertexIn, recordIn, layoutOf, Mesh, meshOf}
 
 -- A u16 and a u32, as the mesh stores them.
 abbrev pub U16 : ℕ → Type 0
@@ -157,7 +157,7 @@ module _ (s : List ℕ) (b : Bytes s) where
         firstChild = or-none-fits (u16At s 15) (u16-fits 15);
       }
     where
-      corner : (k : ℕ) → OrNone (getD (orNone (u16At s 0) ∷ orNone (u16At s 2) ∷ orNone (u16At s 4) ∷ orNone (u16At s 6) ∷ []) k 0)
+      corner : (k : ℕ) → OrNone (getD (cornersFrom s) k 0)
       corner zero = or-none-fits (u16At s 0) (u16-fits 0)
       corner (suc zero) = or-none-fits (u16At s 2) (u16-fits 2)
       corner (suc (suc zero)) = or-none-fits (u16At s 4) (u16-fits 4)

@@ -156,14 +156,20 @@ parentsOf v = record { p = v .p; q = v .q }
 -- ---- "Record, 17 bytes: four corners (u16), refinement edge (u8), marks of faces 0 to 3 (u8 each), flag, generation, number of the
 -- first child (u16; 65,535 if uncut)."
 
--- The record that the first seventeen bytes say.
+-- The corners and the marks of the record that the first seventeen bytes say, and the record.
+abbrev pub cornersFrom : List ℕ → List ℕ
+cornersFrom s = orNone (u16At s 0) ∷ orNone (u16At s 2) ∷ orNone (u16At s 4) ∷ orNone (u16At s 6) ∷ []
+
+abbrev pub marksFrom : List ℕ → List ℕ
+marksFrom s = byteAt s 9 ∷ byteAt s 10 ∷ byteAt s 11 ∷ byteAt s 12 ∷ []
+
 unfoldable pub recordFrom : List ℕ → Record
 recordFrom s =
     record {
       piece = record {
-        corners = orNone (u16At s 0) ∷ orNone (u16At s 2) ∷ orNone (u16At s 4) ∷ orNone (u16At s 6) ∷ [];
+        corners = cornersFrom s;
         edge = byteAt s 8;
-        marks = byteAt s 9 ∷ byteAt s 10 ∷ byteAt s 11 ∷ byteAt s 12 ∷ [];
+        marks = marksFrom s;
         flag = byteAt s 13;
         generation = byteAt s 14;
       };

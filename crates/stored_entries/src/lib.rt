@@ -7,13 +7,11 @@ use stored::Record;
 use stored::Table;
 use stored::Vertex;
 ghost use mathlib.Core.Path.{_≡_};
-ghost use mathlib.Core.List.{[], _∷_};
 ghost use Prim.Native.Nat.{_+_, _*_, _≤_, _<_};
 ghost use lib.ListN.{length, take, drop};
 ghost use Rattle.piece.specs.Shape.{shapeOf, mark};
 ghost use Rattle.piece.specs.Ends.{cornerAt};
 ghost use Rattle.stored.specs.Layout.{
-  byteAt,
   u16At,
   placeOf,
   orNone,
@@ -21,6 +19,8 @@ ghost use Rattle.stored.specs.Layout.{
   vertexFrom,
   vertexIn,
   parentsOf,
+  cornersFrom,
+  marksFrom,
   recordFrom,
   recordIn,
 };
@@ -181,7 +181,7 @@ pub fn parents_in<'a>(l: Layout, base: &'a [u8], grown: &'a [u8], i: usize) -> P
 
 // The corners of a record whose bytes may end early, one by one.
 fn short_corners(entry: &[u8]) -> [u32; 4]
-    ensures { λ r. ⌜ r ≡ orNone (u16At (now (entry .entry)) 0) ∷ orNone (u16At (now (entry .entry)) 2) ∷ orNone (u16At (now (entry .entry)) 4) ∷ orNone (u16At (now (entry .entry)) 6) ∷ [] ⌝ }
+    ensures { λ r. ⌜ r ≡ cornersFrom (now (entry .entry)) ⌝ }
 {
     [
         number_or_none(entry, 0),
@@ -194,7 +194,7 @@ fn short_corners(entry: &[u8]) -> [u32; 4]
 // Corners that are all there.
 fn whole_corners(entry: &[u8]) -> [u32; 4]
     requires { ⌜ 8 ≤ length (now entry) ⌝ }
-    ensures { λ r. ⌜ r ≡ orNone (u16At (now (entry .entry)) 0) ∷ orNone (u16At (now (entry .entry)) 2) ∷ orNone (u16At (now (entry .entry)) 4) ∷ orNone (u16At (now (entry .entry)) 6) ∷ [] ⌝ }
+    ensures { λ r. ⌜ r ≡ cornersFrom (now (entry .entry)) ⌝ }
 {
     [
         or_none(two_of(entry, 0)),
@@ -205,7 +205,7 @@ fn whole_corners(entry: &[u8]) -> [u32; 4]
 }
 
 fn corners_from(entry: &[u8]) -> [u32; 4]
-    ensures { λ r. ⌜ r ≡ orNone (u16At (now (entry .entry)) 0) ∷ orNone (u16At (now (entry .entry)) 2) ∷ orNone (u16At (now (entry .entry)) 4) ∷ orNone (u16At (now (entry .entry)) 6) ∷ [] ⌝ }
+    ensures { λ r. ⌜ r ≡ cornersFrom (now (entry .entry)) ⌝ }
 {
     if entry.len() < 8 {
         return short_corners(entry);
@@ -214,7 +214,7 @@ fn corners_from(entry: &[u8]) -> [u32; 4]
 }
 
 fn marks_from(entry: &[u8]) -> [u8; 4]
-    ensures { λ r. ⌜ r ≡ byteAt (now (entry .entry)) 9 ∷ byteAt (now (entry .entry)) 10 ∷ byteAt (now (entry .entry)) 11 ∷ byteAt (now (entry .entry)) 12 ∷ [] ⌝ }
+    ensures { λ r. ⌜ r ≡ marksFrom (now (entry .entry)) ⌝ }
 {
     [
         slices::byte(entry, 9),

@@ -24,7 +24,7 @@ loop-again : tie.Need-loop-again Inv-loop μ-loop
 loop-again c = (omega arith, counts-next _ _ _ _ _ (c .before .before .before .before .before .loop .inv .1) (c .before .before .count-children .ensures))
 
 same-length : tie.Need-same-length Inv-loop μ-loop
-same-length c = ap length (c .before .loop .inv .1) ∙ counts-long _ _ (children-counting _) _ _
+same-length c = ap length (c .before .loop .inv .1) ∙ counts-long _ (children-counting _ .long) _ _
 
 returns : tie.Need-returns Inv-loop μ-loop
 returns c = counts-end _ _ _ _ _ (c .loop-test .left) (c .before .loop .inv .0) (c .before .loop .inv .1)

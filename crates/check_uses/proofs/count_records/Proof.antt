@@ -1,40 +1,36 @@
 -- `check_uses::count_records` has counted the records before n.
 -- Assumes nothing.
 use borrow.Author.Needs.{needs}
-use Prim.Native.Nat.{ℕ, _≤_, _-_}
+use Prim.Native.Nat.{_≤_, _-_}
 use mathlib.Core.Path.{_≡_, sym, _∙_, ap}
 use native.Mathlib.Omega.{arith}
 use lib.ListN.{length}
 use denote.Ref.{now}
-use mathlib.Core.List.{List}
-use lib.ListN.{length-replicate}
-use native.Mathlib.Nat.{le-antisymm}
-use native.Mathlib.Numerals.{add-one}
-use Rattle.stored.specs.Layout.{limits, recordIn}
-use Rattle.check_uses.specs.Uses.{usedBy, usesAfter, uses-none, uses-suc, uses-long, uses-small}
+use Rattle.laws.specs.Counts.{countsBelow, counts-none, counts-next, counts-end, counts-long}
+use Rattle.stored.specs.Layout.{recordIn}
+use Rattle.check_uses.specs.Uses.{usedBy, uses-marking}
 use Rattle.check_uses.proofs.count_records.Statement.{statement}
 use Rattle.check_uses.proofs.count_records.Tie as tie
 
 abbrev Inv-loop : tie.InvT-loop
-Inv-loop uses₀ l base grown count n₀ uses n = (n ≤ count) × (uses ≡ usesAfter (λ r. recordIn l base grown r .piece) n)
+Inv-loop uses₀ l base grown count n₀ uses n = (n ≤ count) × (uses ≡ countsBelow (λ t r. usedBy t (recordIn l base grown r .piece .corners)) uses₀ n)
 
 abbrev μ-loop : tie.MeasureT-loop
 μ-loop uses₀ l base grown count n₀ uses n = count - n
 
 loop-holds : tie.Need-loop-holds Inv-loop μ-loop
-loop-holds c = (omega arith, c .before .before .before .pre .0 ∙ sym (uses-none (λ r. recordIn (c .before .before .before .args .l) (now (c .before .before .before .args .base)) (now (c .before .before .before .args .grown)) r .piece)))
-
-count-record-requires : tie.Need-count-record-requires Inv-loop μ-loop
-count-record-requires c κs = λ k. rw (c .before .before .loop .inv .1) (omega (arith, uses-small (λ r. recordIn (c .before .before .before .before .before .before .args .l) (now (c .before .before .before .before .before .before .args .base)) (now (c .before .before .before .before .before .before .args .grown)) r .piece) (c .before .before .loop .n) k, c .before .loop-test .taken, c .before .before .before .before .before .before .pre .1))
+loop-holds c = (omega arith, sym (counts-none _ _))
 
 loop-again : tie.Need-loop-again Inv-loop μ-loop
-loop-again c = (omega arith, c .before .before .count-record .ensures ∙ ap (λ (l : List ℕ). usedBy l (recordIn (c .before .before .before .before .before .before .before .before .before .args .l) (now (c .before .before .before .before .before .before .before .before .before .args .base)) (now (c .before .before .before .before .before .before .before .before .before .args .grown)) (c .before .before .before .before .before .loop .n) .piece .corners)) (c .before .before .before .before .before .loop .inv .1) ∙ sym (uses-suc (λ r. recordIn (c .before .before .before .before .before .before .before .before .before .args .l) (now (c .before .before .before .before .before .before .before .before .before .args .base)) (now (c .before .before .before .before .before .before .before .before .before .args .grown)) r .piece) (c .before .before .before .before .before .loop .n)) ∙ ap (usesAfter (λ r. recordIn (c .before .before .before .before .before .before .before .before .before .args .l) (now (c .before .before .before .before .before .before .before .before .before .args .base)) (now (c .before .before .before .before .before .before .before .before .before .args .grown)) r .piece)) (sym (add-one (c .before .before .before .before .before .loop .n))))
+loop-again c = (omega arith, counts-next _ _ _ _ _ (c .before .before .before .before .before .loop .inv .1) (c .before .before .count-record .ensures))
 
 same-length : tie.Need-same-length Inv-loop μ-loop
-same-length c = ap length (c .before .loop .inv .1) ∙ uses-long (λ r. recordIn (c .before .before .before .before .before .args .l) (now (c .before .before .before .before .before .args .base)) (now (c .before .before .before .before .before .args .grown)) r .piece) (c .before .loop .n) ∙ sym (ap length (c .before .before .before .before .before .pre .0) ∙ length-replicate {A = ℕ} (limits .vertices) 0)
+same-length c =
+    let a = c .before .before .before .before .before .args in
+    ap length (c .before .loop .inv .1) ∙ counts-long _ (uses-marking (λ r. recordIn (a .l) (now (a .base)) (now (a .grown)) r .piece) .long) _ _
 
 returns : tie.Need-returns Inv-loop μ-loop
-returns c = c .before .loop .inv .1 ∙ ap (usesAfter (λ r. recordIn (c .before .before .before .before .before .args .l) (now (c .before .before .before .before .before .args .base)) (now (c .before .before .before .before .before .args .grown)) r .piece)) (le-antisymm (c .before .loop .inv .0) (c .loop-test .left))
+returns c = counts-end _ _ _ _ _ (c .loop-test .left) (c .before .loop .inv .0) (c .before .loop .inv .1)
 
 pub count-records-spec : {M : Type 1} → statement M
-count-records-spec = tie.close (tie.spec Inv-loop μ-loop loop-holds count-record-requires (λ c. search needs) (λ c. search needs) loop-again same-length returns)
+count-records-spec = tie.close (tie.spec Inv-loop μ-loop loop-holds (λ c κs. search needs) (λ c. search needs) (λ c. search needs) loop-again same-length returns)

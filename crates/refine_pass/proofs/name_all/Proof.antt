@@ -7,7 +7,7 @@ use native.Mathlib.Omega.{arith}
 use lib.ListN.{length}
 use denote.Ref.{now}
 use Rattle.laws.specs.Links.{countedAt}
-use Rattle.laws.specs.Counts.{countsBelow, counts-none, counts-next, counts-end, counts-long, key-counting}
+use Rattle.laws.specs.Counts.{countsBelow, counts-none, counts-next, counts-end, counts-long, key-marking}
 use Rattle.stored.specs.Layout.{namedIn}
 use Rattle.refine_pass.proofs.name_all.Statement.{statement}
 use Rattle.refine_pass.proofs.name_all.Tie as tie
@@ -28,7 +28,7 @@ loop-again c =
     (omega arith, counts-next (λ t i. countedAt t (namedIn (now (a .selection)) i)) (now (a .named)) (was .i) (was .named) (c .before .before .count .last .0) (was .inv .1) (c .before .before .count .ensures ∙ ap (countedAt (was .named)) (c .before .before .before .named-in .ensures)))
 
 same-length : tie.Need-same-length Inv-loop μ-loop
-same-length c = ap length (c .before .loop .inv .1) ∙ counts-long _ _ (key-counting _) _ _
+same-length c = ap length (c .before .loop .inv .1) ∙ counts-long _ (key-marking _ .long) _ _
 
 returns : tie.Need-returns Inv-loop μ-loop
 returns c = counts-end _ _ _ _ _ (c .loop-test .left) (c .before .loop .inv .0) (c .before .loop .inv .1)
