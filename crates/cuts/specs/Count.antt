@@ -12,7 +12,7 @@ use Rattle.laws.specs.Below.{and-left, and-right, or-true, or-second, either}
 use Rattle.cuts_names.specs.Lists.{both-ways, not-so, among, Distinct, passing, among-append, distinct-append, no-longer, passing-among, passing-distinct, once, once-among, once-distinct, map-among, map-where}
 use Rattle.cuts_names.specs.Names.{Name, sameName, name-equality}
 use Rattle.cuts_names.specs.Pieces.{Piece, Side, low, high, Node, generation, kid, pieceAt, makes}
-use Rattle.cuts.specs.Sets.{Cuts, There, Leaf, Within}
+use Rattle.cuts.specs.Sets.{Cuts, There, Leaf, CutsWithin}
 use Rattle.cuts.specs.Depth.{CutsBelow, cut-there}
 use Rattle.cuts.specs.Least.{sameNode, node-equality}
 
@@ -208,7 +208,7 @@ made-listed base C cuts listed =
 
 -- ---- a set inside another has no more of anything
 
-module _ {count : ℕ} (C X : Cuts count) (inside : Within C X) where
+module _ {count : ℕ} (C X : Cuts count) (inside : CutsWithin C X) where
   -- Fewer cuts, or as many.
   pub cuts-fewer : (l m : List Node) → CutList C l → CutList X m → length l ≤ length m
   cuts-fewer l m a b = no-longer node-equality l m (a .distinct) (λ n t. b .exact n ∙ inside n (sym (a .exact n) ∙ t))

@@ -11,7 +11,7 @@ use Rattle.laws.specs.Below.{same-tests, anyBelow, any-is, any-where, or-true, 
 use Rattle.cuts_names.specs.Lists.{both-ways, not-so, among, without, anyOf, among-head, among-tail, without-keeps, without-within, without-gone, without-distinct, anyOf-where, anyOf-is}
 use Rattle.cuts_names.specs.Names.{Name, sameName, name-equality}
 use Rattle.cuts_names.specs.Pieces.{Piece, Side, low, high, Node, generation, kid, pieceAt, makes, midOf}
-use Rattle.cuts.specs.Sets.{Cuts, There, Leaf, Within, HangsAt, Hangs, NoneHangs}
+use Rattle.cuts.specs.Sets.{Cuts, There, Leaf, CutsWithin, HangsAt, Hangs, NoneHangs}
 use Rattle.cuts_names.specs.Base.{Marked}
 use Rattle.cuts.specs.Depth.{CutsBelow, hanging-below}
 use Rattle.cuts.specs.Least.{sameNode, node-equality, there-within, OneMore, adding, adding-is, more-keeps, more-has, more-only, Reaches, stop, cut, reached-keeps, reached-least, reached-below}
@@ -276,12 +276,12 @@ module _ {count : ℕ} {base : ℕ → Piece Name} (marked : Marked count base) 
 
 module _ {base : ℕ → Piece Name} {count : ℕ} {C : Cuts count} {pick : Node → Bool} (c : Closing base C pick) where
   -- A closed set lies inside every set that holds the old cuts and the selected pieces and in which none hangs.
-  pub closed-least : (X : Cuts count) → Within C X → ((n : Node) → pick n ≡ true → X .has n ≡ true) → NoneHangs base X → Within (c .set) X
+  pub closed-least : (X : Cuts count) → CutsWithin C X → ((n : Node) → pick n ≡ true → X .has n ≡ true) → NoneHangs base X → CutsWithin (c .set) X
   closed-least = reached-least base (λ n. pick n ≡ true) (c .reached)
 
 -- So all closed sets are one, in whatever order the leaves were cut.
 pub closed-unique : {base : ℕ → Piece Name} {count : ℕ} {C : Cuts count} {pick : Node → Bool} (c d : Closing base C pick) → (n : Node) → c .set .has n ≡ d .set .has n
 closed-unique {base} {count} {C} {pick} c d n =
-    let into : (c d : Closing base C pick) → Within (c .set) (d .set) =
+    let into : (c d : Closing base C pick) → CutsWithin (c .set) (d .set) =
     λ c d. closed-least c (d .set) (reached-keeps base (λ n. pick n ≡ true) (d .reached)) (d .selected) (d .rests) in
     same-tests (c .set .has n) (d .set .has n) (into c d n) (into d c n)

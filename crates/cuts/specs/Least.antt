@@ -9,7 +9,7 @@ use borrow.Author.Tests.{eqb-true, eq-eqb}
 use Rattle.laws.specs.Below.{and-left, and-right, or-true, or-second, either}
 use Rattle.cuts_names.specs.Names.{Name}
 use Rattle.cuts_names.specs.Pieces.{Piece, Side, low, high, Node, generation, kid}
-use Rattle.cuts.specs.Sets.{Cuts, There, Leaf, Within, HangsAt, Hangs, NoneHangs}
+use Rattle.cuts.specs.Sets.{Cuts, There, Leaf, CutsWithin, HangsAt, Hangs, NoneHangs}
 use Rattle.cuts_names.specs.Base.{Marked}
 use Rattle.cuts.specs.Depth.{CutsBelow, there-rooted, there-below, cuts-below-leaves, hanging-below}
 use Rattle.cuts_names.specs.Lists.{Equality}
@@ -65,7 +65,7 @@ node-equality = record { only = alike; self = λ n. ap₂ _&&_ (path-self (n .pa
 
 -- ---- larger sets
 
-module _ {count : ℕ} (C X : Cuts count) (inside : Within C X) where
+module _ {count : ℕ} (C X : Cuts count) (inside : CutsWithin C X) where
   -- A node that is there in a set is there in every larger one.
   pub there-within : (n : Node) → There C n → There X n
   there-within n t = at (n .root) (n .path) t
@@ -123,7 +123,7 @@ adding-is D n t m = refl
 
 module _ {count : ℕ} (D : Cuts count) (n : Node) (E : Cuts count) (more : OneMore D n E) where
   -- The old cuts stay.
-  pub more-keeps : Within D E
+  pub more-keeps : CutsWithin D E
   more-keeps m t = more m ∙ ap (λ (b : Bool). b || sameNode m n) t
 
   -- The new cut is one.
@@ -144,12 +144,12 @@ module _ (base : ℕ → Piece Name) (S : Node → Type 0) where
     cut : {D E : Cuts count} → Reaches C D → (n : Node) → Leaf D n → S n ⊎ Hangs base D n → OneMore D n E → Reaches C E
 
   -- The old cuts stay.
-  pub reached-keeps : {count : ℕ} {C D : Cuts count} → Reaches C D → Within C D
+  pub reached-keeps : {count : ℕ} {C D : Cuts count} → Reaches C D → CutsWithin C D
   reached-keeps stop m t = t
   reached-keeps (cut {D} {E} r n l why more) m t = more-keeps D n E more m (reached-keeps r m t)
 
   -- Whatever is reached lies inside every set that holds the old cuts and the selected pieces and in which none hangs.
-  pub reached-least : {count : ℕ} {C D : Cuts count} → Reaches C D → (X : Cuts count) → Within C X → ((n : Node) → S n → X .has n ≡ true) → NoneHangs base X → Within D X
+  pub reached-least : {count : ℕ} {C D : Cuts count} → Reaches C D → (X : Cuts count) → CutsWithin C X → ((n : Node) → S n → X .has n ≡ true) → NoneHangs base X → CutsWithin D X
   reached-least stop X old selected rests = old
   reached-least (cut {D} {E} r n l why more) X old selected rests =
       let inside = reached-least r X old selected rests in

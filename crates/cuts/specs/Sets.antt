@@ -26,8 +26,8 @@ pub record Leaf {count : ℕ} (C : Cuts count) (n : Node) : Type 0 where
   pub uncut : C .has n ≡ false
 
 -- Every cut of C is one of X.
-abbrev pub Within : {count : ℕ} → Cuts count → Cuts count → Type 0
-Within C X = (n : Node) → C .has n ≡ true → X .has n ≡ true
+abbrev pub CutsWithin : {count : ℕ} → Cuts count → Cuts count → Type 0
+CutsWithin C X = (n : Node) → C .has n ≡ true → X .has n ≡ true
 
 module _ (base : ℕ → Piece Name) where
   -- Edge e of node n hangs: some cut makes its midpoint. Two edges are the same where their midpoints are the same name.

@@ -12,7 +12,7 @@ use Rattle.piece.specs.Shape.{Shape, slotA, slotB, Valid}
 use Rattle.cuts_names.specs.Names as Names
 use Rattle.cuts_names.specs.Names.{Name, mid, level}
 use Rattle.cuts_names.specs.Pieces.{Piece, Side, low, high, childWith, renamed, makes, child, Node, generation, kid, pieceDown, pieceAt}
-use Rattle.cuts.specs.Sets.{Cuts, There, Leaf, Within, HangsAt, Hangs, NoneHangs}
+use Rattle.cuts.specs.Sets.{Cuts, There, Leaf, CutsWithin, HangsAt, Hangs, NoneHangs}
 use Rattle.cuts_names.specs.Base.{SameCorners, Different, SameFace, markedAt, Marked}
 use Rattle.cuts_names.specs.Three.{formal, formalDown, standsFor, Macro}
 use Rattle.cuts_names.specs.Macro.{Alike}
@@ -116,22 +116,22 @@ pub record Statements : Type 1 where
   -- ---- least
 
   -- A leaf that hangs in C is cut in every set that holds C and has no hanging edge.
-  pub hangingIsCut : {count : ℕ} (C X : Cuts count) → Within C X → (base : ℕ → Piece Name) (n : Node) → Leaf C n → Hangs base C n → NoneHangs base X → X .has n ≡ true
+  pub hangingIsCut : {count : ℕ} (C X : Cuts count) → CutsWithin C X → (base : ℕ → Piece Name) (n : Node) → Leaf C n → Hangs base C n → NoneHangs base X → X .has n ≡ true
   -- Cutting selected and hanging leaves keeps the old cuts.
-  pub oldCutsStay : (base : ℕ → Piece Name) (S : Node → Type 0) {count : ℕ} {C D : Cuts count} → Reaches base S C D → Within C D
+  pub oldCutsStay : (base : ℕ → Piece Name) (S : Node → Type 0) {count : ℕ} {C D : Cuts count} → Reaches base S C D → CutsWithin C D
   -- What it reaches lies inside every set that holds the old cuts and the selected pieces and has no hanging edge.
   pub least : (base : ℕ → Piece Name) (S : Node → Type 0) {count : ℕ} {C D : Cuts count} → Reaches base S C D →
-      (X : Cuts count) → Within C X → ((n : Node) → S n → X .has n ≡ true) → NoneHangs base X → Within D X
+      (X : Cuts count) → CutsWithin C X → ((n : Node) → S n → X .has n ≡ true) → NoneHangs base X → CutsWithin D X
   -- ---- counting
 
   -- There are as many leaves as base pieces and cuts together.
   pub leavesCount : {count : ℕ} (C : Cuts count) (cuts : List Node) → CutList C cuts → (leaves : List Node) → LeafList C leaves → length leaves ≡ count + length cuts
   -- A set inside another has no more cuts.
-  pub cutsFewer : {count : ℕ} (C X : Cuts count) → Within C X → (l m : List Node) → CutList C l → CutList X m → length l ≤ length m
+  pub cutsFewer : {count : ℕ} (C X : Cuts count) → CutsWithin C X → (l m : List Node) → CutList C l → CutList X m → length l ≤ length m
   -- It has no more pieces.
-  pub leavesFewer : {count : ℕ} (C X : Cuts count) → Within C X → (l m p q : List Node) → CutList C l → CutList X m → LeafList C p → LeafList X q → length p ≤ length q
+  pub leavesFewer : {count : ℕ} (C X : Cuts count) → CutsWithin C X → (l m p q : List Node) → CutList C l → CutList X m → LeafList C p → LeafList X q → length p ≤ length q
   -- It has no more made vertices.
-  pub madeFewer : {count : ℕ} (C X : Cuts count) → Within C X → (base : ℕ → Piece Name) (l m : List Name) → MadeList base C l → MadeList base X m → length l ≤ length m
+  pub madeFewer : {count : ℕ} (C X : Cuts count) → CutsWithin C X → (base : ℕ → Piece Name) (l m : List Name) → MadeList base C l → MadeList base X m → length l ≤ length m
   -- ---- fuel, and the closed set
 
   -- The two children of a node have room for one cut less than the node has, where all cuts have generations below B.
@@ -149,7 +149,7 @@ pub record Statements : Type 1 where
       (cuts : List Node) → CutList C cuts → Closing base C pick
   -- It lies inside every set that holds the old cuts and the selected pieces and has no hanging edge.
   pub closedLeast : {base : ℕ → Piece Name} {count : ℕ} {C : Cuts count} {pick : Node → Bool} (c : Closing base C pick) →
-      (X : Cuts count) → Within C X → ((n : Node) → pick n ≡ true → X .has n ≡ true) → NoneHangs base X → Within (c .set) X
+      (X : Cuts count) → CutsWithin C X → ((n : Node) → pick n ≡ true → X .has n ≡ true) → NoneHangs base X → CutsWithin (c .set) X
   -- There is one such set, in whatever order the leaves are cut.
   pub closedUnique : {base : ℕ → Piece Name} {count : ℕ} {C : Cuts count} {pick : Node → Bool} (c d : Closing base C pick) → (n : Node) → c .set .has n ≡ d .set .has n
   -- ---- shared faces

@@ -28,7 +28,8 @@ Different p = (j k : ℕ) → j < 4 → k < 4 → p .corner j ≡ p .corner k �
 abbrev pub SameFace : Piece Name → ℕ → Piece Name → ℕ → Type 0
 SameFace p i q j = (x : Name) → OnFace p i x ↔ OnFace q j x
 
--- The midpoint of the marked edge of face i: the mark, whatever slots it stands in.
+-- The mark of face i, named by its midpoint: the marked edge is known by its two ends, whatever slots they stand in, and `mid` gives one name to each
+-- unordered pair of ends and no name to two pairs. So two faces carry the same mark where these names are the same.
 abbrev pub markedAt : Piece Name → ℕ → Name
 markedAt p i = midOf p (mark (p .shape) i)
 

@@ -13,9 +13,7 @@ use Rattle.check_refusals.specs.Refusals.{wrongLength, wrongMark}
 use Rattle.check_meaning.specs.Accepted.{RightMesh, Accepted}
 use Rattle.check_meaning.specs.Heading.{rule1-holds, rule2-holds}
 use Rattle.cuts.specs.Sets.{Cuts}
-use Rattle.demands.specs.BaseMesh.{BaseMesh, ProperlyMarked}
-use Rattle.demands.specs.Stored.{Shallow, Numbers, VerticesNumbered, RecordsNumbered, written}
-use Rattle.demands.specs.StoredMesh.{RightSet, StoredMesh}
+use Rattle.demands.specs.Words.{BaseMesh, ProperlyMarked, Shallow, Numbering, VerticesNumbered, RecordsNumbered, written, RightSet, StoredMesh}
 use Rattle.demands.specs.Holds.{Holds}
 use Rattle.demands.specs.Counts.{vertices-within, records-within}
 use Rattle.demands.specs.Read.{written-counted, written-holds}
@@ -23,7 +21,7 @@ use Rattle.demands.specs.HeldEntries.{held-counts, held-vertices, held-b
 use Rattle.demands.specs.HeldCuts.{held-cuts, held-rests}
 
 -- Tables that hold a numbered set of cuts of a properly marked base mesh are as rules 3 to 9 ask.
-pub held-right : (t : Tables) (b : BaseMesh) (C : Cuts (b .pieces)) (N : Numbers) → Holds t b N → ProperlyMarked b → Shallow b C → VerticesNumbered b C N → RecordsNumbered b C N → N .records ≤ none → RightMesh t
+pub held-right : (t : Tables) (b : BaseMesh) (C : Cuts (b .pieces)) (N : Numbering) → Holds t b N → ProperlyMarked b → Shallow b C → VerticesNumbered b C N → RecordsNumbered b C N → N .records ≤ none → RightMesh t
 held-right t b C N h marked shallow nv nr few =
     record {
       counts = held-counts t b C N h marked nv nr;
@@ -35,7 +33,7 @@ held-right t b C N h marked shallow nv nr few =
       cuts = held-cuts t b C N h marked shallow nv nr few;
     }
 
-module _ (job round : ℕ) (b : BaseMesh) (C : Cuts (b .pieces)) (right : RightSet b C) (N : Numbers) (nv : VerticesNumbered b C N) (nr : RecordsNumbered b C N) (job-fits : U32 job) (round-fits : U16 round) where
+module _ (job round : ℕ) (b : BaseMesh) (C : Cuts (b .pieces)) (right : RightSet b C) (N : Numbering) (nv : VerticesNumbered b C N) (nr : RecordsNumbered b C N) (job-fits : U32 job) (round-fits : U16 round) where
   -- The bytes of a numbered set of cuts are accepted.
   pub written-accepted : Accepted (meshBytes (written job round b N))
   unfolding wrongLength wrongMark

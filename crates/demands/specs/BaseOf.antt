@@ -18,8 +18,7 @@ use Rattle.cuts.specs.LinkAlike.{alike-then, nodes-alike}
 use Rattle.cuts.specs.LinkNames.{name-base}
 use Rattle.cuts.specs.LinkNodes.{linked}
 use Rattle.cuts.specs.LinkGrown.{Grown}
-use Rattle.demands.specs.BaseMesh.{BaseMesh, named}
-use Rattle.demands.specs.Stored.{Numbers}
+use Rattle.demands.specs.Words.{BaseMesh, named, Numbering}
 use Rattle.demands.specs.Link.{link}
 
 abbrev pub baseOf : Check.Tables → BaseMesh
@@ -32,7 +31,7 @@ baseOf m =
       cornerAt = λ r k. cornerAt (Check.pieceAt m r) k;
     }
 
-abbrev pub numbersOf : Check.Tables → Numbers
+abbrev pub numbersOf : Check.Tables → Numbering
 numbersOf m =
     record {
       vertices = allVertices m;

@@ -15,8 +15,7 @@ use Rattle.check_refusals.specs.Check.{Row, firstBroken}
 use Rattle.check_meaning.specs.Tests.{Fails}
 use Rattle.build_service.specs.Build.{buildRows, buildNumber}
 use Rattle.build_meaning.specs.Written.{Given}
-use Rattle.demands.specs.BaseMesh.{BaseMesh}
-use Rattle.demands.specs.PlainBase.{plainBase, Whole, CountsWithin, RightPlaces, RightPieces, RightTogether, AllUsed, Roomy}
+use Rattle.demands.specs.Words.{BaseMesh, plainBase, Whole, CountsWithin, RightPlaces, RightPieces, RightTogether, AllUsed, Roomy, BuildAccepts}
 use Rattle.demands.specs.PlainRules.{whole-exactly, counts-exactly, places-exactly, pieces-exactly, together-exactly, used-exactly, room-exactly}
 
 -- ---- the first rule broken
@@ -90,8 +89,7 @@ module _ (job : ℕ) (coordinates : List ℤ) (corners : List ℕ) (room : ℕ) 
     pub gives-20 : (number ≡ 20) ↔
         (Whole coordinates corners × (CountsWithin b × (RightPlaces b × (RightPieces b × (RightTogether b × (AllUsed b × (Roomy b room → ⊥)))))))
     -- "0 on acceptance"
-    pub gives-0 : (number ≡ 0) ↔
-        (Whole coordinates corners × (CountsWithin b × (RightPlaces b × (RightPieces b × (RightTogether b × (AllUsed b × Roomy b room))))))
+    pub gives-0 : (number ≡ 0) ↔ BuildAccepts coordinates corners room
     -- No other number is given.
     pub no-other : BuildNumber number
 
@@ -99,6 +97,15 @@ module _ (job : ℕ) (coordinates : List ℤ) (corners : List ℕ) (room : ℕ) 
   -- The rules after the first k.
   abbrev after : ℕ → List Row
   after k = drop k (buildRows job coordinates corners room)
+
+  -- All seven, named.
+  all-seven : {A : Type 0} → A ↔ (Whole coordinates corners × (CountsWithin (plainBase coordinates corners) × (RightPlaces (plainBase coordinates corners) × (RightPieces (plainBase coordinates corners) × (RightTogether (plainBase coordinates corners) × (AllUsed (plainBase coordinates corners) × Roomy (plainBase coordinates corners) room)))))) →
+      A ↔ BuildAccepts coordinates corners room
+  all-seven all = (
+    λ a. let (whole, (counts, (places, (pieces, (together, (used, roomy)))))) = all .0 a in
+        record { whole = whole; counts = counts; places = places; pieces = pieces; together = together; used = used; roomy = roomy },
+    λ x. all .1 (x .whole, (x .counts, (x .places, (x .pieces, (x .together, (x .used, x .roomy)))))),
+  )
 
   pub build-exactly : BuildExactly job coordinates corners room
   unfolding buildNumber buildRows firstBroken
@@ -139,12 +146,13 @@ module _ (job : ℕ) (coordinates : List ℤ) (corners : List ℕ) (room : ℕ) 
             (λ h7. past 8 _ 20 (used h3 h5) (λ e. omega arith)
             (λ h8. here 20 _ (fits h3 room) (not-given 20 (after 7) refl (λ e. omega arith))))))));
         gives-0 =
-            past 21 _ 0 w (λ e. omega arith) (λ h21. past 3 _ 0 c (λ e. omega arith)
+            all-seven
+            (past 21 _ 0 w (λ e. omega arith) (λ h21. past 3 _ 0 c (λ e. omega arith)
             (λ h3. past 4 _ 0 (places h3) (λ e. omega arith)
             (λ h4. past 5 _ 0 (pieces h3) (λ e. omega arith)
             (λ h5. past 7 _ 0 (together h3 h5) (λ e. omega arith)
             (λ h7. past 8 _ 0 (used h3 h5) (λ e. omega arith)
-            (λ h8. last 20 (fits h3 room) (λ e. omega arith)))))));
+            (λ h8. last 20 (fits h3 room) (λ e. omega arith))))))));
         no-other =
             of-given BuildNumber (buildRows job coordinates corners room) (inl refl) (
               inr (inl refl),

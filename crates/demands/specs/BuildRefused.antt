@@ -17,8 +17,7 @@ use Rattle.grid_volume.specs.Volume.{sixfoldOf}
 use Rattle.stored.specs.Layout.{limits, meshLength}
 use Rattle.check_meaning.specs.Tests.{Passes, reads, equal, below, at-most, not-passes, fails-unless, and-passes, or-passes, all-pass, any-passes}
 use Rattle.check_meaning.specs.Accepted.{OnGrid}
-use Rattle.demands.specs.BaseMesh.{BaseMesh, pointAt, CornerOf, OnFace, SameCorners, SameFace}
-use Rattle.demands.specs.PlainBase.{plainBase, Whole, CountsWithin, RightPlaces, RightCorners, RightPieces, RightTogether, AllUsed, Roomy}
+use Rattle.demands.specs.Words.{BaseMesh, pointAt, BaseCornerOf, OnBaseFace, SameBaseCorners, SameBaseFace, plainBase, Whole, CountsWithin, RightPlaces, RightCorners, RightPieces, RightTogether, AllUsed, Roomy}
 
 -- ---- one or the other
 
@@ -164,25 +163,25 @@ module _ (b : BaseMesh) where
 
   -- ---- 7
 
-  corner-test : (r x : ℕ) → Passes (anyBelow 4 (λ k. eqb (b .cornerAt r k) x)) (CornerOf b r x)
+  corner-test : (r x : ℕ) → Passes (anyBelow 4 (λ k. eqb (b .cornerAt r k) x)) (BaseCornerOf b r x)
   corner-test r x = any-passes 4 λ k l. equal (b .cornerAt r k) x
 
-  face-test : (r i x : ℕ) → Passes (anyBelow 4 (λ k. not (eqb k i) && eqb (b .cornerAt r k) x)) (OnFace b r i x)
+  face-test : (r i x : ℕ) → Passes (anyBelow 4 (λ k. not (eqb k i) && eqb (b .cornerAt r k) x)) (OnBaseFace b r i x)
   face-test r i x =
       reads (any-passes 4 λ k l. and-passes (not-passes (fails-unless (equal k i))) (equal (b .cornerAt r k) x))
       (λ h. (h .0, h .1, h .2 .0, h .2 .1))
       (λ r. (r .0, r .1, (r .2, r .3)))
 
-  corners-within : (r s : ℕ) → ((x : ℕ) → CornerOf b r x → CornerOf b s x) ⊎ (((x : ℕ) → CornerOf b r x → CornerOf b s x) → ⊥)
+  corners-within : (r s : ℕ) → ((x : ℕ) → BaseCornerOf b r x → BaseCornerOf b s x) ⊎ (((x : ℕ) → BaseCornerOf b r x → BaseCornerOf b s x) → ⊥)
   corners-within r s =
       one-or-not (reads (all-pass 4 λ k l. corner-test s (b .cornerAt r k))
-      (λ h x c. subst (CornerOf b s) (c .2) (h (c .0) (c .1)))
+      (λ h x c. subst (BaseCornerOf b s) (c .2) (h (c .0) (c .1)))
       (λ f k l. f (b .cornerAt r k) (k, l, refl)))
 
-  face-within : (r i s j : ℕ) → ((x : ℕ) → OnFace b r i x → OnFace b s j x) ⊎ (((x : ℕ) → OnFace b r i x → OnFace b s j x) → ⊥)
+  face-within : (r i s j : ℕ) → ((x : ℕ) → OnBaseFace b r i x → OnBaseFace b s j x) ⊎ (((x : ℕ) → OnBaseFace b r i x → OnBaseFace b s j x) → ⊥)
   face-within r i s j =
       one-or-not (reads (all-pass 4 λ k l. or-passes (equal k i) (face-test s j (b .cornerAt r k)))
-      (λ h x c. subst (OnFace b s j) (c .3) (⊎-elim (λ e. absurd (c .2 e)) (λ o. o) (h (c .0) (c .1))))
+      (λ h x c. subst (OnBaseFace b s j) (c .3) (⊎-elim (λ e. absurd (c .2 e)) (λ o. o) (h (c .0) (c .1))))
       (λ f k l. ⊎-elim (λ e. inl e) (λ n. inr (f (b .cornerAt r k) (k, l, n, refl))) (one-or-not (equal k i))))
 
   -- Two sets of numbers are one, or not.
@@ -194,15 +193,15 @@ module _ (b : BaseMesh) where
       (λ n. inr (λ s. n (λ x. s x .0)))
       h
 
-  corners-or-not : (r s : ℕ) → SameCorners b r s ⊎ (SameCorners b r s → ⊥)
+  corners-or-not : (r s : ℕ) → SameBaseCorners b r s ⊎ (SameBaseCorners b r s → ⊥)
   corners-or-not r s = both-or-not (corners-within r s) (corners-within s r)
 
-  face-or-not : (r i s j : ℕ) → SameFace b r i s j ⊎ (SameFace b r i s j → ⊥)
+  face-or-not : (r i s j : ℕ) → SameBaseFace b r i s j ⊎ (SameBaseFace b r i s j → ⊥)
   face-or-not r i s j = both-or-not (face-within r i s j) (face-within s j r i)
 
   -- Face k of piece n is a face of piece r too.
   abbrev pub HasFace : ℕ → ℕ → ℕ → Type 0
-  HasFace r n k = (i : ℕ) × (i < 4) × SameFace b r i n k
+  HasFace r n k = (i : ℕ) × (i < 4) × SameBaseFace b r i n k
 
   has-or-not : (r n k : ℕ) → (HasFace r n k → ⊥) ⊎ HasFace r n k
   has-or-not r n k =
@@ -213,7 +212,7 @@ module _ (b : BaseMesh) where
   FaceInThree n = (k : ℕ) × (k < 4) × ((s : ℕ) × (s < n) × (HasFace s n k × ((r : ℕ) × (r < s) × HasFace r n k)))
 
   abbrev pub CornersTwice : ℕ → Type 0
-  CornersTwice n = (r : ℕ) × (r < n) × SameCorners b r n
+  CornersTwice n = (r : ℕ) × (r < n) × SameBaseCorners b r n
 
   three-or-not : (n : ℕ) →
       ((k : ℕ) → k < 4 → (s : ℕ) → s < n → HasFace s n k → (r : ℕ) → r < s → HasFace r n k → ⊥) ⊎ FaceInThree n
@@ -246,7 +245,7 @@ module _ (b : BaseMesh) where
   -- ---- 8 and 20
 
   -- "a base vertex in no base record"
-  pub some-unused : (AllUsed b → ⊥) ↔ ((v : ℕ) × (v < b .vertices) × ((r : ℕ) → r < b .pieces → CornerOf b r v → ⊥))
+  pub some-unused : (AllUsed b → ⊥) ↔ ((v : ℕ) × (v < b .vertices) × ((r : ℕ) → r < b .pieces → BaseCornerOf b r v → ⊥))
   some-unused = (
     λ no. ⊎-elim (λ all. absurd (no all)) (λ h. h)
         (all-or-some (b .vertices) (λ v l. turned (all-or-some (b .pieces) (λ r h. turned (one-or-not (corner-test r v)))))),

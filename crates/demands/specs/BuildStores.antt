@@ -30,12 +30,8 @@ use Rattle.build_meaning.specs.Output.{accepted-bytes}
 use Rattle.cuts_names.specs.Names as Names
 use Rattle.cuts_names.specs.Pieces.{Node, Side, Piece, generation, pieceAt, piece-root}
 use Rattle.cuts.specs.Sets.{There, NoneHangs}
-use Rattle.demands.specs.BaseMesh.{BaseMesh, named, SameFace, SameMark, RightPiece, ProperlyMarked}
-use Rattle.demands.specs.Stored.{Fits, Shallow, Numbers, VerticesNumbered, RecordsNumbered, vertexOf, recordOf, written, Stores}
-use Rattle.demands.specs.StoredMesh.{RightSet}
+use Rattle.demands.specs.Words.{BaseMesh, named, SameBaseFace, SameBaseMark, RightPiece, ProperlyMarked, Fits, Shallow, Numbering, VerticesNumbered, RecordsNumbered, vertexOf, recordOf, written, Stores, RightSet, no-cuts, BuiltMesh, plainBase, CountsWithin, RightPlaces, RightPieces, RightTogether, AllUsed}
 use Rattle.demands.specs.Lawful.{ends-pair}
-use Rattle.demands.specs.BuildWords.{no-cuts, Built}
-use Rattle.demands.specs.PlainBase.{plainBase, CountsWithin, RightPlaces, RightPieces, RightTogether, AllUsed}
 use Rattle.demands.specs.PlainRules.{listed-corner, same-face}
 use Rattle.demands.specs.BuildNumbers.{build-exactly}
 
@@ -93,7 +89,7 @@ module _ (coordinates : List ℤ) (corners : List ℕ) where
           flag = refl;
         }
 
-    one-mark : (r s i j : ℕ) → r < b .pieces → s < b .pieces → i < 4 → j < 4 → SameFace b r i s j → SameMark b r i s j
+    one-mark : (r s i j : ℕ) → r < b .pieces → s < b .pieces → i < 4 → j < 4 → SameBaseFace b r i s j → SameBaseMark b r i s j
     unfolding markedPiece
     one-mark r s i j lr ls hi hj same =
         let p = plainPiece corners r in
@@ -123,7 +119,7 @@ module _ (coordinates : List ℤ) (corners : List ℕ) where
   -- ---- the bytes
 
   -- Vertices and records are numbered as they are listed.
-  abbrev plainNumbers : Numbers
+  abbrev plainNumbers : Numbering
   plainNumbers =
       record {
         vertices = b .vertices;
@@ -211,13 +207,13 @@ module _ (job : ℕ) (coordinates : List ℤ) (corners : List ℕ) (room : ℕ) 
   pub build-stores : RightSet (plainBase coordinates corners) (no-cuts (plainBase coordinates corners .pieces))
       × Stores (plainBytes job coordinates corners) job 0 (plainBase coordinates corners) (no-cuts (plainBase coordinates corners .pieces))
   build-stores =
-      let (whole, (counts, (places, (pieces, (together, (used, roomy)))))) = build-exactly job coordinates corners room g .gives-0 .0 accepted in
+      let asked = build-exactly job coordinates corners room g .gives-0 .0 accepted in
       let b = plainBase coordinates corners in (
-        record { marked = plain-marked coordinates corners pieces counts places together used; none-hangs = none-hangs b; fits = fits b counts; shallow = shallow b },
-        plain-stores coordinates corners job (g .fits-job) pieces,
+        record { marked = plain-marked coordinates corners (asked .pieces) (asked .counts) (asked .places) (asked .together) (asked .used); none-hangs = none-hangs b; fits = fits b (asked .counts); shallow = shallow b },
+        plain-stores coordinates corners job (g .fits-job) (asked .pieces),
       )
 
-  pub built : Built job coordinates corners (buildBytes job coordinates corners room) room
+  pub built : BuiltMesh job coordinates corners (buildBytes job coordinates corners room) room
   built =
       record {
         right = build-stores .0;

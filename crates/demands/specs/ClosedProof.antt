@@ -16,19 +16,17 @@ use Rattle.check_refusals.specs.Check.{checkNumber, checkOf}
 use Rattle.check_refusals.specs.Rows.{report-number}
 use Rattle.check_meaning.specs.Exactly.{accepts-exactly}
 use Rattle.refine_pass.specs.Passes.{exceeds}
-use Rattle.refine_service.specs.Refine.{resultOf, refineNumber, refineBytes}
+use Rattle.refine_service.specs.Refine.{closed, resultOf, refineNumber, refineBytes}
 use Rattle.refine_meaning.specs.Answer.{refused-bytes, accepted-bytes}
 use Rattle.cuts_names.specs.Pieces.{Node, generation}
 use Rattle.cuts.specs.Sets.{Cuts}
-use Rattle.demands.specs.BaseMesh.{BaseMesh}
-use Rattle.demands.specs.Stored.{Fits, fullSize}
-use Rattle.demands.specs.StoredMesh.{StoredMesh}
-use Rattle.demands.specs.Further.{GoodSelection, Selected, Closes, Refined, Closed}
+use Rattle.demands.specs.Words.{BaseMesh, Fits, fullSize, StoredMesh, SelectedPiece, Closes, Refined, GoodFor, RefinedFrom, LeastOrFullFrom}
 use Rattle.demands.specs.AcceptedOf.{accepted-of-stored}
 use Rattle.demands.specs.SetOf.{grown-cuts, grown-not-fits}
 use Rattle.demands.specs.RefineNumbers.{good-exactly, good-number, good-19-exceeds, refine-accepts-all, used-gets-14}
 use Rattle.demands.specs.StoredFigures.{stored-figures, stored-volume}
 use Rattle.demands.specs.FromStored as From
+use Rattle.demands.specs.Outcomes.{closed-as-long, refined-within}
 use Rattle.demands.specs.Inside.{after, set, set-inside, set-one-mark, set-no-deeper, set-closes, set-none-fewer}
 use Rattle.demands.specs.Result.{is-closed, base-vertices, result-stores, result-right, result-mesh}
 use Rattle.cuts.specs.LinkSets.{cutNodes}
@@ -43,12 +41,12 @@ beyond m e =
     (λ f. inr (ltb-true (limits .records) (allRecords m) (sym (ap (λ (c : Bool). c || ltb (limits .records) (allRecords m)) f) ∙ e)))
     (either (ltb (limits .vertices) (allVertices m)))
 
-module _ (s : List ℕ) (x : StoredMesh s) (selection : List ℕ) (good : GoodSelection (x .job) (x .round) (x .base) (x .cuts) (x .stores .numbers) selection) (room : ℕ) (full-size : fullSize ≤ room) where
+module _ (s : List ℕ) (x : StoredMesh s) (selection : List ℕ) (good : GoodFor x selection) (room : ℕ) where
   abbrev b : BaseMesh
   b = x .base
 
   abbrev selected : Node → Type 0
-  selected = Selected (x .stores .numbers) selection
+  selected = SelectedPiece (x .stores .numbers) selection
 
   abbrev t : Check.Tables
   t = after s x selection good
@@ -76,6 +74,7 @@ module _ (s : List ℕ) (x : StoredMesh s) (selection : List ℕ) (good : GoodSe
         record {
           set = D;
           mesh = meshBytes (resultOf t);
+          fits-room = subst (λ (m : Check.Tables). length (meshBytes (resultOf m)) ≤ room) (is-closed s x selection good) (refined-within s selection room e);
           written = subst (λ (m : Check.Tables). refineBytes s selection room ≡ meshBytes (resultOf m) ++ replicate (room - length (meshBytes (resultOf m))) 0) (is-closed s x selection good) (accepted-bytes s selection room e);
           stores = result-stores s x selection good;
           right = result-right s x selection good few;
@@ -87,8 +86,11 @@ module _ (s : List ℕ) (x : StoredMesh s) (selection : List ℕ) (good : GoodSe
           no-deeper = set-no-deeper s x selection good;
         }
 
-  pub closed-proof : Closed (x .job) (x .round) b (x .cuts) selected (refineNumber s selection room) (refineBytes s selection room) room
-  closed-proof =
+  refined-least : refineNumber s selection room ≡ 0 → RefinedFrom x selection (refineBytes s selection room) room
+  refined-least e = ⊎-elim (λ over. absurd (omega (arith, e, is-19 .1 over))) (λ few. handed-back few e) (either (exceeds limits (t .header)))
+
+  pub closed-proof : fullSize ≤ room → LeastOrFullFrom x selection (refineNumber s selection room) (refineBytes s selection room) room
+  closed-proof full-size =
       record {
         accepted-or-full = good-number s selection accepted (From.earns-none s x selection good) room full-size;
         full = (
@@ -96,13 +98,36 @@ module _ (s : List ℕ) (x : StoredMesh s) (selection : List ℕ) (good : GoodSe
           λ none. ⊎-elim (λ e. is-19 .1 e) (λ few. absurd (none D (closes few) (result-right s x selection good few .fits))) (either (exceeds limits (t .header))),
         );
         full-zeros = λ e. refused-bytes s selection room (ne-eqb (refineNumber s selection room) 0 (λ z. omega (arith, z, e)));
-        refined = λ e. ⊎-elim (λ over. absurd (omega (arith, e, is-19 .1 over))) (λ few. handed-back few e) (either (exceeds limits (t .header)));
+        refined = refined-least;
       }
+
+-- What is accepted is so for a buffer of any length: full size is needed for 0 or 19 alone.
+pub accepted-good : (s : List ℕ) (x : StoredMesh s) (selection : List ℕ) (room : ℕ) → refineNumber s selection room ≡ 0 → GoodFor x selection
+accepted-good s x selection room e = From.good-selection s x selection (refine-accepts-all s selection room .0 e .good)
+
+pub any-room : (s : List ℕ) (x : StoredMesh s) (selection : List ℕ) (room : ℕ) → refineNumber s selection room ≡ 0 → RefinedFrom x selection (refineBytes s selection room) room
+any-room s x selection room e = refined-least s x selection (accepted-good s x selection room e) room e
+
+-- From a stored mesh and a good selection refine accepts exactly where the closed result is within the limits and the buffer.
+pub good-accepted : (s : List ℕ) (x : StoredMesh s) (selection : List ℕ) → GoodFor x selection → (room : ℕ) →
+    (refineNumber s selection room ≡ 0)
+    ↔ ((closed s selection .header .vertices ≤ limits .vertices) × (closed s selection .header .records ≤ limits .records) × (length (meshBytes (resultOf (closed s selection))) ≤ room))
+good-accepted s x selection good room = (
+  λ e. let a = refine-accepts-all s selection room .0 e in (a .within .vertices, a .within .records, refined-within s selection room e),
+  λ (vertices, records, long).
+      refine-accepts-all s selection room .1
+      (record {
+        accepted = From.accepted s x;
+        good = From.earns-none s x selection good;
+        within = record { vertices = vertices; records = records };
+        long = subst (λ (n : ℕ). n ≤ room) (closed-as-long s selection) long;
+      }),
+)
 
 -- ---- what follows
 
 -- What is handed back is a stored mesh.
-abbrev mesh-of : (job round : ℕ) (b : BaseMesh) (C : Cuts (b .pieces)) (selected : Node → Type 0) (bytes : List ℕ) (room : ℕ) (r : Refined job round b C selected bytes room) → StoredMesh (r .mesh)
+abbrev pub mesh-of : (job round : ℕ) (b : BaseMesh) (C : Cuts (b .pieces)) (selected : Node → Type 0) (bytes : List ℕ) (room : ℕ) (r : Refined job round b C selected bytes room) → StoredMesh (r .mesh)
 mesh-of job round b C selected bytes room r = record { job = job; round = round + 1; base = b; cuts = r .set; right = r .right; stores = r .stores }
 
 -- What refine writes, check accepts.
@@ -111,7 +136,7 @@ result-accepted job round b C selected bytes room r = report-number (r .mesh) �
 
 -- A good selection is one whose number is none of 11 to 18, whatever the buffer.
 pub earned : (s : List ℕ) (x : StoredMesh s) (selection : List ℕ) →
-    GoodSelection (x .job) (x .round) (x .base) (x .cuts) (x .stores .numbers) selection ↔ ((room : ℕ) → 11 ≤ refineNumber s selection room → refineNumber s selection room ≤ 18 → ⊥)
+    GoodFor x selection ↔ ((room : ℕ) → 11 ≤ refineNumber s selection room → refineNumber s selection room ≤ 18 → ⊥)
 earned s x selection =
     let both = good-exactly s selection (accepts-exactly s .1 (From.accepted s x)) in
     (λ good. both .0 (From.earns-none s x selection good), λ none. From.good-selection s x selection (both .1 none))

@@ -24,7 +24,7 @@ use Rattle.cuts.specs.Tables.{nodeOf}
 use Rattle.cuts.specs.LinkGrown.{Grown, grown-rests}
 use Rattle.demands.specs.Link.{link}
 use Rattle.demands.specs.Hanging.{leaf-hangs, none-hangs}
-use Rattle.demands.specs.PassStages.{Start, Selected, UpToLast, Selectable, Stage, stage-start, stage-below, Later, later-itself, later-then, Turned, May, pass-turned}
+use Rattle.demands.specs.PassStages.{Start, ChosenNode, UpToLast, Selectable, Stage, stage-start, stage-below, Later, later-itself, later-then, Turned, May, pass-turned}
 
 -- ---- the later passes
 
@@ -97,7 +97,7 @@ module _ (most : Limits) (room : most .records < none) (m : Check.Tables) (start
 -- What pass one and the later passes make of the tables m.
 pub record Outcome (most : Limits) (m : Check.Tables) (start : Start m) (chosen : ℕ → Bool) (m′ : Check.Tables) : Type 0 where
   pub set : Cuts (start .count)
-  pub reached : Reaches (start .base) (Selected m chosen) (start .set) set
+  pub reached : Reaches (start .base) (ChosenNode m chosen) (start .set) set
   pub grown : Grown (start .base) (link m′) set
   -- where the tables do not exceed their limits: all that was chosen is cut, and no leaf hangs
   pub selected : exceeds most (m′ .header) ≡ false → (n : ℕ) → chosen n ≡ true → set .has (nodeOf (link m) n) ≡ true

@@ -18,8 +18,7 @@ use Rattle.cuts.specs.Count.{CutList, leavesOf, leaves-listed, leaves-count}
 use Rattle.cuts.specs.LinkLists.{listWhere, where-length, where-which, where-distinct}
 use Rattle.cuts.specs.LinkSets.{count-beyond}
 use Rattle.stored.specs.declared.Limits.{Limits}
-use Rattle.demands.specs.BaseMesh.{BaseMesh}
-use Rattle.demands.specs.Stored.{Fits, Numbers, VerticesNumbered, RecordsNumbered}
+use Rattle.demands.specs.Words.{BaseMesh, Fits, Numbering, VerticesNumbered, RecordsNumbered}
 
 -- Different things, one for each number from b to n, all on a list: there are no more of them than it is long.
 pub numbered-fewer : {A : Type 0} {same : A → A → Bool} → Equality same → (f : ℕ → A) (b n : ℕ) (m : List A) → b ≤ n →
@@ -40,7 +39,7 @@ there-listed C cuts listed n t =
     (λ f. ap (λ (b : Bool). b || among sameNode n cuts) (leaves-listed C cuts listed .all n (record { there = t; uncut = f })))
     (either (C .has n))
 
-module _ (most : Limits) (b : BaseMesh) (C : Cuts (b .pieces)) (fits : Fits most b C) (N : Numbers) where
+module _ (most : Limits) (b : BaseMesh) (C : Cuts (b .pieces)) (fits : Fits most b C) (N : Numbering) where
   -- No more vertices than the limit has.
   pub vertices-within : VerticesNumbered b C N → N .vertices ≤ most .vertices
   vertices-within v =

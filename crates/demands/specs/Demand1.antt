@@ -3,21 +3,25 @@
 --
 -- `check(mesh)` returns `checkOf mesh`. `build(job, coordinates, corners, out)` returns `buildNumber job coordinates corners room` and leaves
 -- `buildBytes job coordinates corners room` in `out`; `refine(mesh, selection, out)` returns `refineNumber mesh selection room` and leaves
--- `refineBytes mesh selection room` in `out`; `room` is the length of `out`. The listing's lines are `linesOf mesh`. This page says which outcomes
--- these are, for every input.
+-- `refineBytes mesh selection room` in `out`; `room` is the length of `out`. That no second outcome fits is said beside the contracts: `one-check`,
+-- `one-build`, `one-refine`. This page says which outcomes these are, for every input.
 --
--- "No caller has to have checked first": none of the three contracts has a `requires`, and each definition is total.
+-- "No caller has to have checked first": none of the contracts has a `requires`, and each definition is total. `Bytes` and `ArgumentTypes` are what the
+-- types of the arguments say (a `&[u8]` holds bytes; the job is a u32, the coordinates are i16, the corners u16); without them a number might not fit
+-- where it is stored. In `promises` no such hypothesis is left.
 -- "The inputs stand as they were": each input is a shared borrow (`&[u8]`, `&[i16]`, `&[u16]`), through which nothing can be written; `out` is the
 -- only `&mut`.
-use mathlib.Core.Path.{_≡_, sym, _∙_}
-use mathlib.Core.Logic.{_≢_, _⊎_}
+use mathlib.Core.Path.{_≡_}
+use mathlib.Core.Logic.{_≢_, _⊎_, inl, inr, ⊎-elim}
 use mathlib.Core.List.{List, [], _∷_, _++_}
 use Prim.Native.Nat.{ℕ, _-_, _≤_, _<_}
+use native.Mathlib.Omega.{arith}
 use lib.ListN.{length, getD, replicate}
 use lib.IntN.{ℤ}
 use Rattle.check_refusals.specs.Tables.{tablesOf}
 use Rattle.laws.specs.Lists.{Bytes}
 use Rattle.stored.specs.Layout.{limits, meshLength, headerOf, Mesh, meshBytes}
+use Rattle.check_refusals.specs.declared.Report.{Report}
 use Rattle.check_refusals.specs.Check.{checkNumber, checkOf}
 use Rattle.build_service.specs.Build.{plainMesh, buildNumber, buildBytes}
 use Rattle.build_meaning.specs.Written.{Given}
@@ -27,34 +31,23 @@ use Rattle.refine_meaning.specs.Answer as Refine
 use Rattle.list_lines.specs.Lines.{refusedLine, lineRoom}
 use Rattle.list_meaning.specs.Listing.{linesOf, meshLines}
 use Rattle.list_meaning.specs.Longest.{no-line-longer}
+use Rattle.demands.specs.Words.{StoredMesh, ArgumentTypes, RefinedFrom}
+use Rattle.demands.specs.GivenTypes.{given-by-types}
 use Rattle.demands.specs.Outcomes.{zero-or-not, check-number, refused-figures, no-hanging-edge, accepted-length, build-number, built-vertices, built-records, built-as-long, built-few, built-within, built-bytes, built-header, built-checked, refine-refused, refine-length, refined-vertices, refined-records, refined-as-long, refined-few, refined-within, refined-header, too-long-line, refused-line, accepted-lines, line-ends}
-
--- ---- one outcome
-
--- Each contract is an equation of this form, for a result and for the bytes of an output buffer: no second outcome fits an input.
-pub one-outcome : {A : Type 0} {x r r′ : A} → r ≡ x → r′ ≡ x → r ≡ r′
-one-outcome e e′ = e ∙ sym e′
+use Rattle.demands.specs.ClosedProof.{any-room}
 
 -- ---- the words
 
 -- What check answers, for a byte string.
-pub record CheckOutcome (s : List ℕ) : Type 0 where
-  -- The number is one of 1 to 10, or 0 on acceptance.
-  pub number : checkOf s .number ≤ 10
-  -- It is acceptance or refusal.
-  pub either : (checkOf s .number ≡ 0) ⊎ (checkOf s .number ≢ 0)
-  -- What is accepted is as long as its header says: "20 + 10·vertices + 17·records".
-  pub accepted : checkOf s .number ≡ 0 → length s ≡ meshLength (headerOf s .vertices) (headerOf s .records)
-  -- With a refusal the number of leaves is 0.
-  pub leaves : checkOf s .number ≢ 0 → checkOf s .leaves ≡ 0
-  -- With a refusal the greatest leaf generation is 0.
-  pub deepest : checkOf s .number ≢ 0 → checkOf s .deepest ≡ 0
-  -- With a refusal the summed sixfold volume is 0.
-  pub sixfold : checkOf s .number ≢ 0 → checkOf s .sixfold ≡ 0
-  -- With any answer but 10 the record of the hanging edge is 0.
-  pub hanging-record : checkOf s .number ≢ 10 → checkOf s .«record» ≡ 0
-  -- With any answer but 10 the code of the hanging edge is 0.
-  pub hanging-edge : checkOf s .number ≢ 10 → checkOf s .edge ≡ 0
+pub record CheckOutcome (s : List ℕ) (r : Report) : Type 0 where
+  -- Accepted, and then it is as long as its header says, "20 + 10·vertices + 17·records"; or refused with one of 1 to 10, and then leaves, depth and volume
+  -- are 0.
+  pub either :
+      ((r .number ≡ 0) × (length s ≡ meshLength (headerOf s .vertices) (headerOf s .records)))
+      ⊎ ((1 ≤ r .number) × (r .number ≤ 10) × (r .leaves ≡ 0) × (r .deepest ≡ 0) × (r .sixfold ≡ 0))
+  -- With any answer but 10 the record and the code of the hanging edge are 0.
+  pub hanging-record : r .number ≢ 10 → r .«record» ≡ 0
+  pub hanging-edge : r .number ≢ 10 → r .edge ≡ 0
 
 -- "A mesh": what an output buffer of this length holds after acceptance.
 pub record MeshIn (out : List ℕ) (room : ℕ) : Type 0 where
@@ -78,34 +71,22 @@ pub record MeshIn (out : List ℕ) (room : ℕ) : Type 0 where
   pub header : headerOf out ≡ mesh .header
 
 -- What build answers, for a job number, coordinates and corners, and a length of the output buffer.
-pub record BuildOutcome (job : ℕ) (coordinates : List ℤ) (corners : List ℕ) (room : ℕ) : Type 0 where
-  -- "Build tries 21, then 3, 4, 5, 7, 8, 20": the number is one of these, or 0 on acceptance.
-  pub number : let n = buildNumber job coordinates corners room in
-      (n ≡ 0) ⊎ (n ≡ 21) ⊎ (n ≡ 3) ⊎ (n ≡ 4) ⊎ (n ≡ 5) ⊎ (n ≡ 7) ⊎ (n ≡ 8) ⊎ (n ≡ 20)
-  -- It is acceptance or refusal.
-  pub either : (buildNumber job coordinates corners room ≡ 0) ⊎ (buildNumber job coordinates corners room ≢ 0)
+pub record BuildOutcome (job : ℕ) (coordinates : List ℤ) (corners : List ℕ) (room number : ℕ) (bytes : List ℕ) : Type 0 where
+  -- "either a mesh", which check accepts; "or a numbered refusal", one of those that build tries, "21, then 3, 4, 5, 7, 8, 20", and "all zeros".
+  pub either :
+      ((number ≡ 0) × (out : MeshIn bytes room) × (checkNumber (meshBytes (out .mesh)) ≡ 0))
+      ⊎ (((number ≡ 21) ⊎ (number ≡ 3) ⊎ (number ≡ 4) ⊎ (number ≡ 5) ⊎ (number ≡ 7) ⊎ (number ≡ 8) ⊎ (number ≡ 20)) × (bytes ≡ replicate room 0))
   -- The output buffer keeps its length.
-  pub length : length (buildBytes job coordinates corners room) ≡ room
-  -- "After a refusal the output buffer is all zeros."
-  pub refused : buildNumber job coordinates corners room ≢ 0 → buildBytes job coordinates corners room ≡ replicate room 0
-  -- After acceptance it holds a mesh, and check accepts that. `Given` says what the types of the arguments say: the job is a u32, the coordinates are
-  -- i16, the corners u16; without it a number might not fit where it is stored.
-  pub accepted : Given job coordinates corners → buildNumber job coordinates corners room ≡ 0 →
-      (out : MeshIn (buildBytes job coordinates corners room) room) × (checkNumber (meshBytes (out .mesh)) ≡ 0)
+  pub length : length bytes ≡ room
 
 -- What refine answers, for two byte strings and a length of the output buffer.
-pub record RefineOutcome (mesh selection : List ℕ) (room : ℕ) : Type 0 where
-  -- The number is one of 1 to 20, or 0 on acceptance.
-  pub number : refineNumber mesh selection room ≤ 20
-  -- It is acceptance or refusal.
-  pub either : (refineNumber mesh selection room ≡ 0) ⊎ (refineNumber mesh selection room ≢ 0)
+pub record RefineOutcome (mesh selection : List ℕ) (room number : ℕ) (bytes : List ℕ) : Type 0 where
+  -- "either a mesh", "or a numbered refusal", one of 1 to 20, and "all zeros".
+  pub either : ((number ≡ 0) × MeshIn bytes room) ⊎ ((1 ≤ number) × (number ≤ 20) × (bytes ≡ replicate room 0))
   -- The output buffer keeps its length.
-  pub length : length (refineBytes mesh selection room) ≡ room
-  -- "After a refusal the output buffer is all zeros."
-  pub refused : refineNumber mesh selection room ≢ 0 → refineBytes mesh selection room ≡ replicate room 0
-  -- After acceptance it holds a mesh (demand 3 says which, and that check accepts it). `Bytes` says that the elements of the first byte string are
-  -- bytes, as those of a `&[u8]` are; without it a number might not fit where it is stored.
-  pub accepted : Bytes mesh → refineNumber mesh selection room ≡ 0 → MeshIn (refineBytes mesh selection room) room
+  pub length : length bytes ≡ room
+  -- Which mesh it is, whatever the buffer's length: what demand 3 says of the least closing set, and that set alone.
+  pub refined : number ≡ 0 → (x : StoredMesh mesh) → RefinedFrom x selection bytes room
 
 -- What the listing says, for a byte string: its lines. No contract can say what a program writes; the functions that set the lines have contracts.
 pub record ListingOutcome (s : List ℕ) : Type 0 where
@@ -124,28 +105,37 @@ pub record ListingOutcome (s : List ℕ) : Type 0 where
 -- ---- the theorems
 
 -- Every byte string has one of check's outcomes.
-pub check-outcome : (s : List ℕ) → CheckOutcome s
+pub check-outcome : (s : List ℕ) → CheckOutcome s (checkOf s)
 check-outcome s =
     record {
-      number = check-number s;
-      either = zero-or-not (checkOf s .number);
-      accepted = accepted-length s;
-      leaves = λ n. refused-figures s n .0;
-      deepest = λ n. refused-figures s n .1;
-      sixfold = λ n. refused-figures s n .2;
+      either = ⊎-elim
+          (λ e. inl (e, accepted-length s e))
+          (λ n. let f = refused-figures s n in inr (omega (arith, n), check-number s, f .0, f .1, f .2))
+          (zero-or-not (checkOf s .number));
       hanging-record = λ n. no-hanging-edge s n .0;
       hanging-edge = λ n. no-hanging-edge s n .1;
     }
 
 -- Every job number, all coordinates and corners, and every length of the output buffer have one of build's.
-pub build-outcome : (job : ℕ) (coordinates : List ℤ) (corners : List ℕ) (room : ℕ) → BuildOutcome job coordinates corners room
-build-outcome job coordinates corners room =
+pub build-outcome : (job : ℕ) (coordinates : List ℤ) (corners : List ℕ) → ArgumentTypes job coordinates corners → (room : ℕ) →
+    BuildOutcome job coordinates corners room (buildNumber job coordinates corners room) (buildBytes job coordinates corners room)
+build-outcome job coordinates corners types room =
     record {
-      number = build-number job coordinates corners room;
-      either = zero-or-not (buildNumber job coordinates corners room);
+      either = ⊎-elim
+          (λ e. inl (e, built e, built-checked job coordinates corners room e given))
+          (λ n. inr (refused n (build-number job coordinates corners room), Build.refused-bytes job coordinates corners room n))
+          (zero-or-not (buildNumber job coordinates corners room));
       length = Build.output-length job coordinates corners room;
-      refused = Build.refused-bytes job coordinates corners room;
-      accepted = λ g e. (
+    }
+  where
+    given : Given job coordinates corners
+    given = given-by-types job coordinates corners types
+
+    refused : {n : ℕ} → n ≢ 0 → (n ≡ 0) ⊎ (n ≡ 21) ⊎ (n ≡ 3) ⊎ (n ≡ 4) ⊎ (n ≡ 5) ⊎ (n ≡ 7) ⊎ (n ≡ 8) ⊎ (n ≡ 20) → (n ≡ 21) ⊎ (n ≡ 3) ⊎ (n ≡ 4) ⊎ (n ≡ 5) ⊎ (n ≡ 7) ⊎ (n ≡ 8) ⊎ (n ≡ 20)
+    refused other given = ⊎-elim (λ e. absurd (other e)) (λ later. later) given
+
+    built : buildNumber job coordinates corners room ≡ 0 → MeshIn (buildBytes job coordinates corners room) room
+    built e =
         record {
           mesh = plainMesh job coordinates corners;
           vertices = built-vertices job coordinates corners;
@@ -155,33 +145,34 @@ build-outcome job coordinates corners room =
           bytes = built-bytes job coordinates corners room e;
           as-long = built-as-long job coordinates corners;
           within = built-within job coordinates corners room e;
-          header = built-header job coordinates corners room e g;
-        },
-        built-checked job coordinates corners room e g,
-      );
-    }
+          header = built-header job coordinates corners room e given;
+        }
 
 -- Every two byte strings and every length of the output buffer have one of refine's.
-pub refine-outcome : (mesh selection : List ℕ) (room : ℕ) → RefineOutcome mesh selection room
-refine-outcome mesh selection room =
+pub refine-outcome : (mesh selection : List ℕ) → Bytes mesh → (room : ℕ) → RefineOutcome mesh selection room (refineNumber mesh selection room) (refineBytes mesh selection room)
+refine-outcome mesh selection b room =
     record {
-      number = Refine.number-at-most mesh selection room;
-      either = zero-or-not (refineNumber mesh selection room);
+      either = ⊎-elim
+          (λ e. inl (e, refined e))
+          (λ n. inr (omega (arith, n), Refine.number-at-most mesh selection room, refine-refused mesh selection room n))
+          (zero-or-not (refineNumber mesh selection room));
       length = refine-length mesh selection room;
-      refused = refine-refused mesh selection room;
-      accepted = λ b e.
-          record {
-            mesh = resultOf (closed mesh selection);
-            vertices = refined-vertices mesh selection;
-            records = refined-records mesh selection;
-            few-vertices = refined-few mesh selection room e .0;
-            few-records = refined-few mesh selection room e .1;
-            bytes = Refine.accepted-bytes mesh selection room e;
-            as-long = refined-as-long mesh selection;
-            within = refined-within mesh selection room e;
-            header = refined-header mesh selection room e b;
-          };
+      refined = λ e x. any-room mesh x selection room e;
     }
+  where
+    refined : refineNumber mesh selection room ≡ 0 → MeshIn (refineBytes mesh selection room) room
+    refined e =
+        record {
+          mesh = resultOf (closed mesh selection);
+          vertices = refined-vertices mesh selection;
+          records = refined-records mesh selection;
+          few-vertices = refined-few mesh selection room e .0;
+          few-records = refined-few mesh selection room e .1;
+          bytes = Refine.accepted-bytes mesh selection room e;
+          as-long = refined-as-long mesh selection;
+          within = refined-within mesh selection room e;
+          header = refined-header mesh selection room e b;
+        }
 
 -- Every byte string has one of the listing's.
 pub listing-outcome : (s : List ℕ) → ListingOutcome s

@@ -2,64 +2,93 @@
 -- mesh is accepted exactly when it is a set of such cuts of a properly marked base mesh with no hanging edge, within 01's limits; the leaves, depth and
 -- volume reported are that set's."
 --
--- The words: `BaseMesh` (a base mesh, properly marked), `Stored` (what fits, a numbering, its bytes), `StoredMesh` (all of it together), `Figures` (the
--- leaves, depth and volume of a set), `PlainBase` and `BuildWords` (the base mesh that build's lists say). A set of cuts, its leaves and hanging edges: `cuts/specs/Sets`; pieces over names, and what a cut gives:
--- `cuts_names/specs/Pieces`.
+-- The words are in `Words`. The definitions to the byte: `plainBytes` (build_service/specs/Build) is the mesh that build's lists say, marked as document 01
+-- ranks edges; `closed` and `resultOf` (refine_service/specs/Refine) are the tables after pass one and all later passes, and the mesh written of them.
 use mathlib.Core.Path.{_≡_, sym, _∙_}
 use mathlib.Core.Logic.{_↔_}
-use mathlib.Core.List.{List}
-use Prim.Native.Nat.{ℕ, _+_, _*_, _<_}
-use lib.ListN.{getD}
+use mathlib.Core.List.{List, _++_}
+use Prim.Native.Nat.{ℕ, _+_, _-_, _*_, _≤_, _<_}
+use lib.ListN.{length, getD, replicate}
 use lib.IntN.{ℤ, pos}
 use Rattle.laws.specs.Lists.{Bytes}
+use Rattle.stored.specs.Layout.{limits, meshBytes}
 use Rattle.check_refusals.specs.Rows.{report-number}
 use Rattle.check_meaning.specs.Exactly.{accepts-exactly}
+use Rattle.build_service.specs.Build.{plainBytes}
+use Rattle.build_meaning.specs.Output as Build
+use Rattle.refine_service.specs.Refine.{closed, resultOf}
+use Rattle.refine_meaning.specs.Answer as Refine
 use Rattle.cuts_names.specs.Pieces.{Node}
-use Rattle.demands.specs.BaseMesh.{pointAt}
-use Rattle.demands.specs.StoredMesh.{StoredMesh}
-use Rattle.demands.specs.PlainBase.{plainBase}
-use Rattle.demands.specs.BuildWords.{ArgumentTypes, Built}
-use Rattle.demands.specs.Services.{check, build, buildOut}
-use Rattle.demands.specs.GivenTypes.{given-by-types, stands-as-listed}
-use Rattle.demands.specs.BuildStores.{built}
-use Rattle.demands.specs.Figures.{Figures}
-use Rattle.demands.specs.OneSet.{SameBase}
+use Rattle.demands.specs.Words.{Numbering, StoredMesh, Figures, pointAt, plainBase, ArgumentTypes, BuildAccepts, BuiltMesh, GoodFor}
+use Rattle.demands.specs.Services.{Services, ours}
 use Rattle.demands.specs.StoredOf.{stored-of-accepted}
 use Rattle.demands.specs.AcceptedOf.{accepted-of-stored}
+use Rattle.demands.specs.StoredBytes.{stored-bytes}
 use Rattle.demands.specs.StoredFigures.{stored-figures, stored-one-base, stored-one-set}
+use Rattle.demands.specs.OneSet.{SameBase}
+use Rattle.demands.specs.GivenTypes.{given-by-types, stands-as-listed}
+use Rattle.demands.specs.BuildNumbers.{build-exactly}
+use Rattle.demands.specs.BuildStores.{built}
+use Rattle.demands.specs.ClosedProof.{good-accepted}
 
--- "A stored mesh is accepted exactly when it is a set of such cuts of a properly marked base mesh with no hanging edge, within 01's limits".
-pub accepted-exactly : (s : List ℕ) → Bytes s → (check s .number ≡ 0) ↔ StoredMesh s
-accepted-exactly s bytes = (
-  λ e. stored-of-accepted s bytes (accepts-exactly s .0 (sym (report-number s) ∙ e)),
-  λ x. report-number s ∙ accepts-exactly s .1 (accepted-of-stored s x),
-)
+-- The mesh that the closing of a stored mesh and a selection gives, as bytes.
+abbrev pub closedBytes : List ℕ → List ℕ → List ℕ
+closedBytes mesh selection = meshBytes (resultOf (closed mesh selection))
 
--- A byte string stores one base and one set only.
+-- It has at most 1,024 vertices and 3,072 records, and a buffer of so many bytes holds it.
+pub record ClosedFits (mesh selection : List ℕ) (room : ℕ) : Type 0 where
+  pub vertices : closed mesh selection .header .vertices ≤ limits .vertices
+  pub records : closed mesh selection .header .records ≤ limits .records
+  pub fits-room : length (closedBytes mesh selection) ≤ room
+
+pub record MeetsDemand2 (S : Services) : Type 0 where
+  -- "A stored mesh is accepted exactly when it is a set of such cuts of a properly marked base mesh with no hanging edge, within 01's limits"
+  pub accepted-exactly : (s : List ℕ) → (Bytes s × (S .check s .number ≡ 0)) ↔ StoredMesh s
+  -- "the leaves, depth and volume reported are that set's."
+  pub figures : (s : List ℕ) (x : StoredMesh s) → Figures (x .base) (x .cuts) (S .check s .leaves) (S .check s .deepest) (S .check s .sixfold)
+  -- Build accepts exactly what document 01 asks of its lists and its buffer; what it accepts is the base mesh that the lists say, properly marked by the
+  -- ranking, with nothing cut; and "to the byte".
+  pub build-accepts : (job : ℕ) (coordinates : List ℤ) (corners : List ℕ) → ArgumentTypes job coordinates corners → (room : ℕ) →
+      (S .build job coordinates corners room ≡ 0) ↔ BuildAccepts coordinates corners room
+  pub build-stores : (job : ℕ) (coordinates : List ℤ) (corners : List ℕ) → ArgumentTypes job coordinates corners → (room : ℕ) → S .build job coordinates corners room ≡ 0 →
+      BuiltMesh job coordinates corners (S .buildOut job coordinates corners room) room
+  pub marking : (job : ℕ) (coordinates : List ℤ) (corners : List ℕ) → ArgumentTypes job coordinates corners → (room : ℕ) → S .build job coordinates corners room ≡ 0 →
+      S .buildOut job coordinates corners room ≡ plainBytes job coordinates corners ++ replicate (room - length (plainBytes job coordinates corners)) 0
+  -- Refine of a stored mesh and a good selection accepts exactly where the closed result fits, and gives that result, "to the byte".
+  pub refine-accepts : (s : List ℕ) (x : StoredMesh s) (selection : List ℕ) → GoodFor x selection → (room : ℕ) → (S .refine s selection room ≡ 0) ↔ ClosedFits s selection room
+  pub closing : (s : List ℕ) (x : StoredMesh s) (selection : List ℕ) → GoodFor x selection → (room : ℕ) → S .refine s selection room ≡ 0 →
+      S .refineOut s selection room ≡ closedBytes s selection ++ replicate (room - length (closedBytes s selection)) 0
+
+-- Ours meet it.
+pub demand-2 : MeetsDemand2 ours
+demand-2 =
+    record {
+      accepted-exactly = λ s. (
+        λ (bytes, e). stored-of-accepted s bytes (accepts-exactly s .0 (sym (report-number s) ∙ e)),
+        λ x. (stored-bytes s x, report-number s ∙ accepts-exactly s .1 (accepted-of-stored s x)),
+      );
+      figures = stored-figures;
+      build-accepts = λ job coordinates corners types room. build-exactly job coordinates corners room (given-by-types job coordinates corners types) .gives-0;
+      build-stores = λ job coordinates corners types room. built job coordinates corners room (given-by-types job coordinates corners types);
+      marking = λ job coordinates corners types room. Build.accepted-bytes job coordinates corners room;
+      refine-accepts = λ s x selection good room. (
+        λ e. let a = good-accepted s x selection good room .0 e in record { vertices = a .0; records = a .1; fits-room = a .2 },
+        λ f. good-accepted s x selection good room .1 (f .vertices, f .records, f .fits-room),
+      );
+      closing = λ s x selection good room. Refine.accepted-bytes s selection room;
+    }
+
+-- ---- a byte string stores one job, one round, one base, one set and one numbering only
+
 pub one-base : (s : List ℕ) (x x′ : StoredMesh s) → SameBase (x .base) (x′ .base)
 one-base = stored-one-base
 
 pub one-set : (s : List ℕ) (x x′ : StoredMesh s) (n : Node) → x .cuts .has n ≡ x′ .cuts .has n
 one-set = stored-one-set
 
--- "the leaves, depth and volume reported are that set's."
-pub figures-reported : (s : List ℕ) (x : StoredMesh s) → Figures (x .base) (x .cuts) (check s .leaves) (check s .deepest) (check s .sixfold)
-figures-reported s x =
-    record {
-      leaves-are = stored-figures s x .leaves-are;
-      deepest-reached = stored-figures s x .deepest-reached;
-      deepest-most = stored-figures s x .deepest-most;
-      sixfold-is = stored-figures s x .sixfold-is;
-    }
+-- ---- build
 
--- Build: what it accepts is the base mesh that the caller's lists say, properly marked by the ranking, with nothing cut.
-pub build-stores : (job : ℕ) (coordinates : List ℤ) (corners : List ℕ) → ArgumentTypes job coordinates corners → (room : ℕ) → build job coordinates corners room ≡ 0 →
-    Built job coordinates corners (buildOut job coordinates corners room) room
-build-stores job coordinates corners types room e =
-    let r = built job coordinates corners room (given-by-types job coordinates corners types) e in
-    record { right = r .right; result = r .result; stores = r .stores; fits-room = r .fits-room; buffer = r .buffer }
-
--- Its vertices stand at the listed coordinates.
+-- The vertices of the base mesh that the lists say stand at the listed coordinates.
 pub as-listed : (job : ℕ) (coordinates : List ℤ) (corners : List ℕ) → ArgumentTypes job coordinates corners → (v : ℕ) → v < plainBase coordinates corners .vertices →
     pointAt (plainBase coordinates corners) v ≡ record { x = getD coordinates (3 * v) (pos 0); y = getD coordinates (3 * v + 1) (pos 0); z = getD coordinates (3 * v + 2) (pos 0) }
 as-listed = stands-as-listed

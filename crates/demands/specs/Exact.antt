@@ -24,8 +24,7 @@ use Rattle.cuts_names.specs.Names as Names
 use Rattle.cuts_names.specs.Names.{Name, mid, mid-which, mid-injective}
 use Rattle.cuts_names.specs.Pieces.{Piece, Side, endAt, childWith, child, Node, generation, pieceDown, pieceAt, makes}
 use Rattle.cuts.specs.Grid.{MultipleOf2, lowEnd, highEnd, makes-exact}
-use Rattle.demands.specs.BaseMesh.{BaseMesh, named, ProperlyMarked}
-use Rattle.demands.specs.Figures.{placeOf}
+use Rattle.demands.specs.Words.{BaseMesh, named, ProperlyMarked, placeOf}
 use Rattle.demands.specs.MarkedBase.{properly-marked}
 
 -- ---- places

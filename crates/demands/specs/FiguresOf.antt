@@ -32,9 +32,7 @@ use Rattle.cuts.specs.LinkLists.{listWhere, where-length}
 use Rattle.cuts.specs.LinkNames.{base-or-beyond}
 use Rattle.cuts.specs.LinkNodes.{linked}
 use Rattle.cuts.specs.LinkSets.{leafNodes, uncut-leaf, leaf-uncut, leaves-listed, uncut-count}
-use Rattle.demands.specs.BaseMesh.{BaseMesh, named, ProperlyMarked}
-use Rattle.demands.specs.Stored.{Numbers, VerticesNumbered, RecordsNumbered}
-use Rattle.demands.specs.Figures.{placeOf, sixfoldAt, sumOf, Figures}
+use Rattle.demands.specs.Words.{BaseMesh, named, ProperlyMarked, Numbering, VerticesNumbered, RecordsNumbered, placeOf, sixfoldAt, sumOf, Figures}
 use Rattle.demands.specs.Link.{link}
 use Rattle.demands.specs.Holds.{Holds}
 use Rattle.demands.specs.Exact.{place-mid}
@@ -170,7 +168,7 @@ sixfold-same f g h =
 
 -- ---- the tables
 
-module _ (m : Check.Tables) (b : BaseMesh) (C : Cuts (b .pieces)) (N : Numbers) (holds : Holds m b N) (vertices : VerticesNumbered b C N) (records : RecordsNumbered b C N) (four : (r : ℕ) → r < b .pieces → length (b .shapeAt r .marks) ≡ 4) (small : N .records ≤ none) (lawful : Lawful (link m)) where
+module _ (m : Check.Tables) (b : BaseMesh) (C : Cuts (b .pieces)) (N : Numbering) (holds : Holds m b N) (vertices : VerticesNumbered b C N) (records : RecordsNumbered b C N) (four : (r : ℕ) → r < b .pieces → length (b .shapeAt r .marks) ≡ 4) (small : N .records ≤ none) (lawful : Lawful (link m)) where
   abbrev t : Tables
   t = link m
 
@@ -259,6 +257,8 @@ module _ (m : Check.Tables) (b : BaseMesh) (C : Cuts (b .pieces)) (N : Numbers) 
   pub figures-held : ProperlyMarked b → Figures b C (leaves m) (deepest m) (sixfold m)
   figures-held properly =
       record {
+        list = leafNodes t;
+        listed = listed;
         leaves-are = λ l x. leaves-length C l (leafNodes t) x listed ∙ leaf-count;
         deepest-reached = deepest-leaf (properly .some-pieces);
         deepest-most = none-deeper;

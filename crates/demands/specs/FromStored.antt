@@ -23,11 +23,8 @@ use Rattle.cuts_names.specs.Lists.{not-so}
 use Rattle.cuts_names.specs.Pieces.{Node, generation}
 use Rattle.cuts.specs.Tables.{Lawful, nodeOf}
 use Rattle.cuts.specs.LinkGrown.{Grown}
-use Rattle.demands.specs.BaseMesh.{named}
-use Rattle.demands.specs.Stored.{Numbers, headerFor}
-use Rattle.demands.specs.StoredMesh.{StoredMesh}
-use Rattle.demands.specs.Further.{GoodSelection, Selected}
-use Rattle.demands.specs.Selections.{EarnsNone, countIn}
+use Rattle.demands.specs.Words.{named, Numbering, headerFor, StoredMesh, GoodSelection, SelectedPiece, countIn}
+use Rattle.demands.specs.Selections.{EarnsNone}
 use Rattle.demands.specs.Link.{link}
 use Rattle.demands.specs.Lawful.{accepted-lawful}
 use Rattle.demands.specs.Holds.{Holds}
@@ -44,7 +41,7 @@ module _ (s : List ℕ) (x : StoredMesh s) where
   abbrev pub m : Check.Tables
   m = tablesOf s
 
-  abbrev pub N : Numbers
+  abbrev pub N : Numbering
   N = x .stores .numbers
 
   pub accepted : Accepted s
@@ -122,13 +119,13 @@ module _ (s : List ℕ) (x : StoredMesh s) where
         subst (λ (k : ℕ). (k < allRecords m) × (isCut m k ≡ false) × (pieceAt m k .generation < lastGeneration)) q (named-leaf i l)
 
     -- The nodes of the chosen records are the selected pieces.
-    pub chosen-selected : (n : Node) → Stages.Selected m chosen n → Selected N selection n
+    pub chosen-selected : (n : Node) → Stages.ChosenNode m chosen n → SelectedPiece N selection n
     chosen-selected n (k, c, q) =
         let (i, l, e) = which k c in
         let there : k < N .records = subst (λ (j : ℕ). j < N .records) e (good .there i l) in
         (i, l, ap (N .nodeAt) e ∙ sym (stored-node k there) ∙ q)
 
-    pub selected-chosen : (n : Node) → Selected N selection n → Stages.Selected m chosen n
+    pub selected-chosen : (n : Node) → SelectedPiece N selection n → Stages.ChosenNode m chosen n
     selected-chosen n (i, l, q) = (namedIn selection i, named-chosen i l, stored-node (namedIn selection i) (good .there i l) ∙ q)
 
     -- What the passes make of it.

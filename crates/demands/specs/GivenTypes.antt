@@ -13,9 +13,7 @@ use borrow.Author.Tests.{le-ltb}
 use Rattle.grid.specs.Places.{coordinate}
 use Rattle.build_marks.specs.Marking.{placeFor, plainPlace}
 use Rattle.build_meaning.specs.Written.{Given}
-use Rattle.demands.specs.BaseMesh.{pointAt}
-use Rattle.demands.specs.PlainBase.{plainBase}
-use Rattle.demands.specs.BuildWords.{I16, ArgumentTypes}
+use Rattle.demands.specs.Words.{pointAt, plainBase, I16, ArgumentTypes}
 
 -- What the machine holds as an i16 is one.
 pub i16-held : (z : ℤ) → SFits w16 z → I16 z

@@ -20,8 +20,7 @@ use Rattle.refine_service.specs.Refine.{resultOf}
 use Rattle.cuts.specs.Sets.{Cuts}
 use Rattle.cuts.specs.LinkNodes.{linked}
 use Rattle.cuts.specs.LinkGrown.{Grown}
-use Rattle.demands.specs.BaseMesh.{BaseMesh, named}
-use Rattle.demands.specs.Stored.{Numbers, VerticesNumbered, vertexOf, recordOf, written, Stores}
+use Rattle.demands.specs.Words.{BaseMesh, named, Numbering, VerticesNumbered, vertexOf, recordOf, written, Stores}
 use Rattle.demands.specs.Link.{link}
 use Rattle.demands.specs.BaseOf.{numbersOf, record-alike}
 use Rattle.demands.specs.Holds.{Holds}
@@ -84,7 +83,7 @@ meshFor job round m =
       records = listBelow (allRecords m) (m .recordAt);
     }
 
-module _ (m : Check.Tables) (b : BaseMesh) (N : Numbers) (holds : Holds m b N) where
+module _ (m : Check.Tables) (b : BaseMesh) (N : Numbering) (holds : Holds m b N) where
   -- Tables that hold a numbering are the mesh that is written of it.
   pub holds-written : (job round : ℕ) → meshFor job round m ≡ written job round b N
   holds-written job round =

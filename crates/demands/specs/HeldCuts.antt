@@ -29,8 +29,7 @@ use Rattle.cuts.specs.Sets.{Cuts, There, NoneHangs}
 use Rattle.cuts.specs.Depth.{cut-there}
 use Rattle.cuts.specs.LinkNames.{base-or-beyond}
 use Rattle.cuts.specs.LinkNodes.{same-kid}
-use Rattle.demands.specs.BaseMesh.{BaseMesh, named, ProperlyMarked}
-use Rattle.demands.specs.Stored.{Shallow, Numbers, VerticesNumbered, RecordsNumbered, firstSide, secondSide}
+use Rattle.demands.specs.Words.{BaseMesh, named, ProperlyMarked, Shallow, Numbering, VerticesNumbered, RecordsNumbered, firstSide, secondSide}
 use Rattle.demands.specs.MarkedBase.{pair-mid}
 use Rattle.demands.specs.Holds.{Holds}
 use Rattle.demands.specs.HeldEntries.{parents-at, made-beyond, beyond-made, corner-at, generation-at, first-at, shape-at}
@@ -59,7 +58,7 @@ unfolding slotA slotB
 side-low true s = refl
 side-low false s = refl
 
-module _ (t : Tables) (b : BaseMesh) (C : Cuts (b .pieces)) (N : Numbers) (h : Holds t b N) (marked : ProperlyMarked b) (shallow : Shallow b C) (nv : VerticesNumbered b C N) (nr : RecordsNumbered b C N) (few : N .records ≤ none) where
+module _ (t : Tables) (b : BaseMesh) (C : Cuts (b .pieces)) (N : Numbering) (h : Holds t b N) (marked : ProperlyMarked b) (shallow : Shallow b C) (nv : VerticesNumbered b C N) (nr : RecordsNumbered b C N) (few : N .records ≤ none) where
   -- The piece that record r holds, and its node's piece over names.
   abbrev held : ℕ → Declared.Piece
   held r = Check.pieceAt t r

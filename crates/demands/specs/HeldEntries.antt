@@ -25,9 +25,8 @@ use Rattle.cuts_names.specs.Names as Names
 use Rattle.cuts_names.specs.Names.{mid}
 use Rattle.cuts_names.specs.Pieces.{Piece, generation, pieceAt, piece-root}
 use Rattle.cuts.specs.Sets.{Cuts}
-use Rattle.demands.specs.BaseMesh as Base
-use Rattle.demands.specs.BaseMesh.{BaseMesh, named, ProperlyMarked}
-use Rattle.demands.specs.Stored.{Numbers, VerticesNumbered, RecordsNumbered, recordOf}
+use Rattle.demands.specs.Words as Base
+use Rattle.demands.specs.Words.{BaseMesh, named, ProperlyMarked, Numbering, VerticesNumbered, RecordsNumbered, recordOf}
 use Rattle.demands.specs.Holds.{Holds}
 use Rattle.demands.specs.Read.{record-valid}
 
@@ -40,7 +39,7 @@ sixfold-four f g h = rw (h 0 (omega arith), h 1 (omega arith), h 2 (omega arith)
 four-marks : (s : Shape) → length (s .marks) ≡ 4 → record { edge = s .edge; marks = mark s 0 ∷ mark s 1 ∷ mark s 2 ∷ mark s 3 ∷ []; flag = s .flag } ≡ s
 four-marks s four = λ i. record { edge = s .edge; marks = four-of (s .marks) 0 four i; flag = s .flag }
 
-module _ (t : Tables) (b : BaseMesh) (C : Cuts (b .pieces)) (N : Numbers) (h : Holds t b N) where
+module _ (t : Tables) (b : BaseMesh) (C : Cuts (b .pieces)) (N : Numbering) (h : Holds t b N) where
   -- ---- vertices
 
   pub point-at : (v : ℕ) → v < N .vertices → pointAt t v ≡ pointOf (N .placeAt v)
@@ -212,31 +211,31 @@ module _ (t : Tables) (b : BaseMesh) (C : Cuts (b .pieces)) (N : Numbers) (h : H
     -- ---- 7 and 8
 
     -- Corners and faces of base records are those of the base pieces.
-    corner-of : (r : ℕ) → r < b .pieces → (x : ℕ) → Accepted.CornerOf (Check.pieceAt t r) x ↔ Base.CornerOf b r x
+    corner-of : (r : ℕ) → r < b .pieces → (x : ℕ) → Accepted.CornerOf (Check.pieceAt t r) x ↔ Base.BaseCornerOf b r x
     corner-of r l x = (
       λ c. let (k, m, e) = c in (k, m, sym (base-corner r l k m) ∙ e),
       λ c. let (k, m, e) = c in (k, m, base-corner r l k m ∙ e),
     )
 
-    on-face : (r : ℕ) → r < b .pieces → (i x : ℕ) → Accepted.OnFace (Check.pieceAt t r) i x ↔ Base.OnFace b r i x
+    on-face : (r : ℕ) → r < b .pieces → (i x : ℕ) → Accepted.OnFace (Check.pieceAt t r) i x ↔ Base.OnBaseFace b r i x
     on-face r l i x = (
       λ c. let (k, m, o, e) = c in (k, m, o, sym (base-corner r l k m) ∙ e),
       λ c. let (k, m, o, e) = c in (k, m, o, base-corner r l k m ∙ e),
     )
 
-    same-face : (r i s j : ℕ) → r < b .pieces → s < b .pieces → Accepted.SameFace (Check.pieceAt t r) i (Check.pieceAt t s) j → Base.SameFace b r i s j
+    same-face : (r i s j : ℕ) → r < b .pieces → s < b .pieces → Accepted.SameFace (Check.pieceAt t r) i (Check.pieceAt t s) j → Base.SameBaseFace b r i s j
     same-face r i s j lr ls f x = (
       λ o. on-face s ls j x .0 (f x .0 (on-face r lr i x .1 o)),
       λ o. on-face r lr i x .0 (f x .1 (on-face s ls j x .1 o)),
     )
 
-    same-corners : (r s : ℕ) → r < b .pieces → s < b .pieces → Accepted.SameCorners (Check.pieceAt t r) (Check.pieceAt t s) → Base.SameCorners b r s
+    same-corners : (r s : ℕ) → r < b .pieces → s < b .pieces → Accepted.SameCorners (Check.pieceAt t r) (Check.pieceAt t s) → Base.SameBaseCorners b r s
     same-corners r s lr ls f x = (
       λ o. corner-of s ls x .0 (f x .0 (corner-of r lr x .1 o)),
       λ o. corner-of r lr x .0 (f x .1 (corner-of s ls x .1 o)),
     )
 
-    same-mark : (r i s j : ℕ) → r < b .pieces → s < b .pieces → Base.SameMark b r i s j → markedEnds (Check.pieceAt t r) i ≡ markedEnds (Check.pieceAt t s) j
+    same-mark : (r i s j : ℕ) → r < b .pieces → s < b .pieces → Base.SameBaseMark b r i s j → markedEnds (Check.pieceAt t r) i ≡ markedEnds (Check.pieceAt t s) j
     same-mark r i s j lr ls f =
         let corner : (r : ℕ) → r < b .pieces → (e : ℕ) → (cornerAt (Check.pieceAt t r) (lowSlot e) ≡ b .cornerAt r (lowSlot e)) × (cornerAt (Check.pieceAt t r) (highSlot e) ≡ b .cornerAt r (highSlot e)) =
         λ r l e. (base-corner r l (lowSlot e) (slots-small e .0), base-corner r l (highSlot e) (slots-small e .1)) in

@@ -2,10 +2,9 @@
 use mathlib.Core.Path.{_≡_}
 use Prim.Native.Nat.{ℕ, _<_}
 use Rattle.check_refusals.specs.Tables.{Tables, baseVertices, allVertices, baseRecords, allRecords}
-use Rattle.demands.specs.BaseMesh.{BaseMesh}
-use Rattle.demands.specs.Stored.{Numbers, vertexOf, recordOf}
+use Rattle.demands.specs.Words.{BaseMesh, Numbering, vertexOf, recordOf}
 
-pub record Holds (m : Tables) (b : BaseMesh) (N : Numbers) : Type 0 where
+pub record Holds (m : Tables) (b : BaseMesh) (N : Numbering) : Type 0 where
   pub base-vertices : baseVertices m ≡ b .vertices
   pub vertices : allVertices m ≡ N .vertices
   pub base-records : baseRecords m ≡ b .pieces

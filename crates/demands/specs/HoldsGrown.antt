@@ -33,8 +33,7 @@ use Rattle.cuts.specs.Tables.{Tables, Lawful, lowFirst, childOn, nameOf, pieceO
 use Rattle.cuts.specs.LinkNames.{base-or-beyond, name-base, name-made}
 use Rattle.cuts.specs.LinkNodes.{node-root, node-kid, every-record}
 use Rattle.cuts.specs.LinkGrown.{Grown}
-use Rattle.demands.specs.BaseMesh.{BaseMesh, named}
-use Rattle.demands.specs.Stored.{Numbers, VerticesNumbered, RecordsNumbered, secondSide}
+use Rattle.demands.specs.Words.{BaseMesh, named, Numbering, VerticesNumbered, RecordsNumbered, secondSide}
 use Rattle.demands.specs.Link.{link}
 use Rattle.demands.specs.Holds.{Holds}
 
@@ -49,7 +48,7 @@ numbered-child node f n true x y high = x
 numbered-child node f n false x y low = x
 numbered-child node f n false x y high = y
 
-module _ (m : Check.Tables) (b : BaseMesh) (C : Cuts (b .pieces)) (N : Numbers) (holds : Holds m b N) (vertices : VerticesNumbered b C N) (records : RecordsNumbered b C N) (four : (r : ℕ) → r < b .pieces → length (b .shapeAt r .marks) ≡ 4) (small : N .records ≤ none) (lawful : Lawful (link m)) where
+module _ (m : Check.Tables) (b : BaseMesh) (C : Cuts (b .pieces)) (N : Numbering) (holds : Holds m b N) (vertices : VerticesNumbered b C N) (records : RecordsNumbered b C N) (four : (r : ℕ) → r < b .pieces → length (b .shapeAt r .marks) ≡ 4) (small : N .records ≤ none) (lawful : Lawful (link m)) where
   abbrev t : Tables
   t = link m
 

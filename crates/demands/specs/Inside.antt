@@ -9,14 +9,12 @@ use Rattle.check_refusals.specs.Tables as Check
 use Rattle.refine_pass.specs.Passes.{exceeds, refined}
 use Rattle.cuts_names.specs.Base.{SameFace, markedAt}
 use Rattle.cuts_names.specs.Pieces.{Node, generation, pieceAt}
-use Rattle.cuts.specs.Sets.{Cuts, Leaf, Within}
+use Rattle.cuts.specs.Sets.{Cuts, Leaf, CutsWithin}
 use Rattle.cuts.specs.Depth.{there-rooted}
 use Rattle.cuts.specs.Least.{reached-keeps, reached-least, reached-depth}
 use Rattle.cuts.specs.Count.{CutList, LeafList, leaves-fewer, cuts-bounded}
 use Rattle.cuts.specs.Faces.{shared-face-one-mark}
-use Rattle.demands.specs.BaseMesh.{BaseMesh, named}
-use Rattle.demands.specs.StoredMesh.{StoredMesh}
-use Rattle.demands.specs.Further.{GoodSelection, Selected, Closes}
+use Rattle.demands.specs.Words.{BaseMesh, named, StoredMesh, GoodSelection, SelectedPiece, Closes}
 use Rattle.demands.specs.PassStages as Stages
 use Rattle.demands.specs.MarkedBase.{properly-marked}
 use Rattle.demands.specs.FromStored as From
@@ -26,10 +24,10 @@ module _ (s : List ℕ) (x : StoredMesh s) (selection : List ℕ) (good : GoodSe
   b = x .base
 
   abbrev selected : Node → Type 0
-  selected = Selected (x .stores .numbers) selection
+  selected = SelectedPiece (x .stores .numbers) selection
 
   abbrev chosen : Node → Type 0
-  chosen = Stages.Selected (From.m s x) (From.chosen s x selection good)
+  chosen = Stages.ChosenNode (From.m s x) (From.chosen s x selection good)
 
   -- The tables after all passes, and the set that they represent.
   abbrev pub after : Check.Tables
@@ -38,10 +36,10 @@ module _ (s : List ℕ) (x : StoredMesh s) (selection : List ℕ) (good : GoodSe
   abbrev pub set : Cuts (b .pieces)
   set = From.made s x selection good .set
 
-  pub set-keeps : Within (x .cuts) set
+  pub set-keeps : CutsWithin (x .cuts) set
   set-keeps = reached-keeps (named b) chosen (From.made s x selection good .reached)
 
-  pub set-inside : (X : Cuts (b .pieces)) → Closes b (x .cuts) selected X → Within set X
+  pub set-inside : (X : Cuts (b .pieces)) → Closes b (x .cuts) selected X → CutsWithin set X
   set-inside X closes =
       reached-least (named b) chosen (From.made s x selection good .reached) X (closes .keeps)
       (λ n c. closes .selected-cut n (From.chosen-selected s x selection good n c)) (closes .none-hangs)

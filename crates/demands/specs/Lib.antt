@@ -1,14 +1,8 @@
 -- The three demands: their words, their theorems, and the proofs.
 -- the words
-pub mod BaseMesh
-pub mod Stored
-pub mod StoredMesh
-pub mod Figures
-pub mod PlainBase
-pub mod BuildWords
-pub mod Selections
-pub mod Further
+pub mod Words
 -- the proofs
+pub mod Selections
 pub mod Link
 pub mod Lawful
 pub mod BaseOf
@@ -41,14 +35,16 @@ pub mod BuildStores
 pub mod FromStored
 pub mod Inside
 pub mod StoredFigures
+pub mod StoredBytes
 pub mod Result
 pub mod ClosedProof
 pub mod Outcomes
+pub mod WorkedMeshes
 -- the demands
-pub mod Impostors
 pub mod Services
 pub mod Demand1
 pub mod Demand2
 pub mod Demand3
 pub mod Numbers
 pub mod Starred
+pub mod Impostors

@@ -6,7 +6,7 @@ use Rattle.check_refusals.specs.Tables as Check
 use Rattle.check_refusals.specs.Tables.{baseRecords, pieceAt, sixfoldAt}
 use Rattle.check_meaning.specs.Accepted.{RightMesh}
 use Rattle.check_meaning.specs.Cuts.{Four}
-use Rattle.demands.specs.BaseMesh.{RightPiece, ProperlyMarked}
+use Rattle.demands.specs.Words.{RightPiece, ProperlyMarked}
 use Rattle.demands.specs.Lawful.{ends-pair}
 use Rattle.demands.specs.BaseOf.{baseOf}
 

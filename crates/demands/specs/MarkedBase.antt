@@ -15,7 +15,7 @@ use Rattle.cuts_names.specs.Names as Names
 use Rattle.cuts_names.specs.Names.{Name, mid, mid-sym}
 use Rattle.cuts_names.specs.Base as Base
 use Rattle.cuts_names.specs.Base.{Marked, HasCorner, markedAt}
-use Rattle.demands.specs.BaseMesh.{BaseMesh, named, CornerOf, OnFace, SameCorners, SameFace, SameMark, ValidlyMarked, ProperlyMarked}
+use Rattle.demands.specs.Words.{BaseMesh, named, BaseCornerOf, OnBaseFace, SameBaseCorners, SameBaseFace, SameBaseMark, ValidlyMarked, ProperlyMarked}
 
 -- A validly marked shape whose flag is not set is valid.
 valid-shape : (s : Shape) → ValidlyMarked s → s .flag ≡ 0 → Valid s
@@ -41,20 +41,20 @@ before-or-same r s =
 
 module _ (b : BaseMesh) where
   -- What holds of the names of corners holds of their numbers.
-  corner-too : (r s : ℕ) → ((x : Name) → HasCorner (named b r) x → HasCorner (named b s) x) → (x : ℕ) → CornerOf b r x → CornerOf b s x
+  corner-too : (r s : ℕ) → ((x : Name) → HasCorner (named b r) x → HasCorner (named b s) x) → (x : ℕ) → BaseCornerOf b r x → BaseCornerOf b s x
   corner-too r s f x (k, l, e) = let (j, m, d) = f (Names.base (b .cornerAt r k)) (k, l, refl) in (j, m, base-once _ _ d ∙ e)
 
-  same-corners : (r s : ℕ) → Base.SameCorners (named b r) (named b s) → SameCorners b r s
+  same-corners : (r s : ℕ) → Base.SameCorners (named b r) (named b s) → SameBaseCorners b r s
   same-corners r s f x = (corner-too r s (λ y. f y .0) x, corner-too s r (λ y. f y .1) x)
 
-  face-too : (r i s j : ℕ) → ((x : Name) → Base.OnFace (named b r) i x → Base.OnFace (named b s) j x) → (x : ℕ) → OnFace b r i x → OnFace b s j x
+  face-too : (r i s j : ℕ) → ((x : Name) → Base.OnFace (named b r) i x → Base.OnFace (named b s) j x) → (x : ℕ) → OnBaseFace b r i x → OnBaseFace b s j x
   face-too r i s j f x (k, l, o, e) = let (n, m, o′, d) = f (Names.base (b .cornerAt r k)) (k, l, o, refl) in (n, m, o′, base-once _ _ d ∙ e)
 
-  same-face : (r i s j : ℕ) → Base.SameFace (named b r) i (named b s) j → SameFace b r i s j
+  same-face : (r i s j : ℕ) → Base.SameFace (named b r) i (named b s) j → SameBaseFace b r i s j
   same-face r i s j f x = (face-too r i s j (λ y. f y .0) x, face-too s j r i (λ y. f y .1) x)
 
   -- Marked edges with the same two vertices have one midpoint.
-  same-mark : (r i s j : ℕ) → SameMark b r i s j → markedAt (named b r) i ≡ markedAt (named b s) j
+  same-mark : (r i s j : ℕ) → SameBaseMark b r i s j → markedAt (named b r) i ≡ markedAt (named b s) j
   same-mark r i s j = ⊎-elim (λ e. ap₂ both (e .0) (e .1)) (λ e. ap₂ both (e .0) (e .1) ∙ mid-sym _ _)
     where
       both : ℕ → ℕ → Name
@@ -62,7 +62,7 @@ module _ (b : BaseMesh) where
 
   module _ (p : ProperlyMarked b) where
     -- A piece has no face twice.
-    one-face : (r i j : ℕ) → r < b .pieces → j < 4 → SameFace b r i r j → i ≡ j
+    one-face : (r i j : ℕ) → r < b .pieces → j < 4 → SameBaseFace b r i r j → i ≡ j
     one-face r i j h l f = ⊎-elim (λ t. absurd (apart (λ e. omega arith))) (⊎-elim (λ e. e) (λ t. absurd (apart (λ e. omega arith)))) (before-or-same i j)
       where
         apart : (j ≡ i → ⊥) → ⊥
@@ -80,15 +80,15 @@ module _ (b : BaseMesh) where
           shared = λ r s hr hs i j li lj f. shared r s hr hs i j li lj (same-face r i s j f) (same-face s j r i (λ x. (f x .1, f x .0)));
         }
       where
-        alone : (r s : ℕ) → r < b .pieces → s < b .pieces → SameCorners b r s → SameCorners b s r → r ≡ s
+        alone : (r s : ℕ) → r < b .pieces → s < b .pieces → SameBaseCorners b r s → SameBaseCorners b s r → r ≡ s
         alone r s hr hs f g = ⊎-elim (λ l. absurd (p .alone r s l hs f)) (⊎-elim (λ e. e) (λ l. absurd (p .alone s r l hr g))) (before-or-same r s)
 
-        itself : (r s : ℕ) → r ≡ s → r < b .pieces → (i j : ℕ) → j < 4 → SameFace b r i s j → markedAt (named b r) i ≡ markedAt (named b s) j
+        itself : (r s : ℕ) → r ≡ s → r < b .pieces → (i j : ℕ) → j < 4 → SameBaseFace b r i s j → markedAt (named b r) i ≡ markedAt (named b s) j
         itself r s e hr i j lj f =
-            let f′ : SameFace b r i r j = rw (← e) at f in
+            let f′ : SameBaseFace b r i r j = rw (← e) at f in
             ap₂ (λ (s i : ℕ). markedAt (named b s) i) e (one-face r i j hr lj f′)
 
-        shared : (r s : ℕ) → r < b .pieces → s < b .pieces → (i j : ℕ) → i < 4 → j < 4 → SameFace b r i s j → SameFace b s j r i → markedAt (named b r) i ≡ markedAt (named b s) j
+        shared : (r s : ℕ) → r < b .pieces → s < b .pieces → (i j : ℕ) → i < 4 → j < 4 → SameBaseFace b r i s j → SameBaseFace b s j r i → markedAt (named b r) i ≡ markedAt (named b s) j
         shared r s hr hs i j li lj f g =
             ⊎-elim
             (λ l. same-mark r i s j (p .one-mark r s i j l hs li lj f))

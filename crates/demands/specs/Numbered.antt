@@ -17,8 +17,7 @@ use Rattle.cuts.specs.LinkNames.{name-base, name-made, names-distinct}
 use Rattle.cuts.specs.LinkNodes.{node-root, node-kid, linked, nodes-distinct}
 use Rattle.cuts.specs.LinkSets.{node-cut, node-there, there-node, made-by, makes-made}
 use Rattle.cuts.specs.LinkGrown.{Grown}
-use Rattle.demands.specs.BaseMesh.{BaseMesh, named}
-use Rattle.demands.specs.Stored.{MadeVertex, VerticesNumbered, firstSide, secondSide, CutRecord, RecordsNumbered}
+use Rattle.demands.specs.Words.{BaseMesh, named, MadeVertexNumbered, VerticesNumbered, firstSide, secondSide, CutRecord, RecordsNumbered}
 use Rattle.demands.specs.Link.{link}
 use Rattle.check_meaning.specs.Cuts.{is-leaf}
 use Rattle.demands.specs.BaseOf.{numbersOf, node-makes, record-alike}
@@ -32,7 +31,7 @@ module _ (m : Check.Tables) (b : BaseMesh) (D : Cuts (b .pieces)) (g : Grown (na
 
   -- ---- vertices
 
-  made-vertex : (v : ℕ) → b .vertices ≤ v → v < allVertices m → Midpoint (pointAt m v) (pointAt m (parentP m v)) (pointAt m (parentQ m v)) → MadeVertex b D (numbersOf m) v
+  made-vertex : (v : ℕ) → b .vertices ≤ v → v < allVertices m → Midpoint (pointAt m v) (pointAt m (parentP m v)) (pointAt m (parentQ m v)) → MadeVertexNumbered b D (numbersOf m) v
   made-vertex v beyond there halfway =
       let made : Made (link m) v = (omega (arith, beyond, base-vertices), there) in
       let x = l .parents v made in

@@ -1,4 +1,4 @@
--- The numbers, each given exactly when, in the order in which they are tried: document 01, "Numbers we give back". What each asks is a plain statement: of a
+-- The numbers, each given exactly when, in the order in which they are tried: document 01, "Numbering we give back". What each asks is a plain statement: of a
 -- stored mesh in `check_meaning/specs/Accepted`, of a selection in `Selections`, of build's lists in `PlainBase`.
 use mathlib.Core.Path.{_≡_}
 use mathlib.Core.Logic.{_↔_}
@@ -9,7 +9,7 @@ use Rattle.check_refusals.specs.Check.{checkNumber}
 use Rattle.check_meaning.specs.Exactly as Check
 use Rattle.check_meaning.specs.Exactly.{Rule, RulesBefore}
 use Rattle.refine_service.specs.Refine.{refineNumber}
-use Rattle.demands.specs.BuildWords.{ArgumentTypes}
+use Rattle.demands.specs.Words.{ArgumentTypes}
 use Rattle.demands.specs.BuildNumbers as Build
 use Rattle.demands.specs.BuildNumbers.{BuildExactly}
 use Rattle.demands.specs.RefineNumbers as Refine

@@ -12,8 +12,7 @@ use Rattle.cuts_names.specs.Pieces.{Node}
 use Rattle.cuts.specs.Sets.{Cuts}
 use Rattle.cuts.specs.Tables.{Lawful}
 use Rattle.cuts.specs.LinkSets.{exactly-one}
-use Rattle.demands.specs.BaseMesh.{BaseMesh}
-use Rattle.demands.specs.Stored.{Numbers, VerticesNumbered, RecordsNumbered}
+use Rattle.demands.specs.Words.{BaseMesh, Numbering, VerticesNumbered, RecordsNumbered}
 use Rattle.demands.specs.Link.{link}
 use Rattle.demands.specs.Holds.{Holds}
 use Rattle.demands.specs.HoldsGrown.{represents, grown}
@@ -31,13 +30,13 @@ base-once : (u v : ℕ) → Names.base u ≡ Names.base v → u ≡ v
 base-once u v e = cc
 
 -- A base vertex's place is the one in the table.
-place-held : (m : Check.Tables) (b : BaseMesh) (C : Cuts (b .pieces)) (N : Numbers) → Holds m b N → VerticesNumbered b C N → (v : ℕ) → v < b .vertices → m .vertexAt v .place ≡ b .placeAt v
+place-held : (m : Check.Tables) (b : BaseMesh) (C : Cuts (b .pieces)) (N : Numbering) → Holds m b N → VerticesNumbered b C N → (v : ℕ) → v < b .vertices → m .vertexAt v .place ≡ b .placeAt v
 place-held m b C N holds vertices v h =
     ap (λ (x : Vertex). x .place) (holds .vertexAt v (omega (arith, h, vertices .base-first))) ∙ vertices .base-place v h
 
 module _ (m : Check.Tables) (lawful : Lawful (link m))
-    (b : BaseMesh) (C : Cuts (b .pieces)) (N : Numbers) (holds : Holds m b N) (vertices : VerticesNumbered b C N) (records : RecordsNumbered b C N) (four : (r : ℕ) → r < b .pieces → length (b .shapeAt r .marks) ≡ 4) (small : N .records ≤ none)
-    (b′ : BaseMesh) (C′ : Cuts (b′ .pieces)) (N′ : Numbers) (holds′ : Holds m b′ N′) (vertices′ : VerticesNumbered b′ C′ N′) (records′ : RecordsNumbered b′ C′ N′) (four′ : (r : ℕ) → r < b′ .pieces → length (b′ .shapeAt r .marks) ≡ 4) (small′ : N′ .records ≤ none) where
+    (b : BaseMesh) (C : Cuts (b .pieces)) (N : Numbering) (holds : Holds m b N) (vertices : VerticesNumbered b C N) (records : RecordsNumbered b C N) (four : (r : ℕ) → r < b .pieces → length (b .shapeAt r .marks) ≡ 4) (small : N .records ≤ none)
+    (b′ : BaseMesh) (C′ : Cuts (b′ .pieces)) (N′ : Numbering) (holds′ : Holds m b′ N′) (vertices′ : VerticesNumbered b′ C′ N′) (records′ : RecordsNumbered b′ C′ N′) (four′ : (r : ℕ) → r < b′ .pieces → length (b′ .shapeAt r .marks) ≡ 4) (small′ : N′ .records ≤ none) where
   -- One base.
   pub one-base : SameBase b b′
   one-base =

@@ -163,6 +163,11 @@ module _ (mesh selection : List ℕ) where
   pub refined-as-long : length (meshBytes (resultOf (closed mesh selection))) ≡ meshLength (resultOf (closed mesh selection) .header .vertices) (resultOf (closed mesh selection) .header .records)
   refined-as-long = mesh-as-long (resultOf (closed mesh selection)) refined-vertices refined-records
 
+-- In the words of the closed tables.
+pub closed-as-long : (mesh selection : List ℕ) → length (meshBytes (resultOf (closed mesh selection))) ≡ meshLength (closed mesh selection .header .vertices) (closed mesh selection .header .records)
+unfolding resultOf
+closed-as-long = refined-as-long
+
 module _ (mesh selection : List ℕ) (room : ℕ) where
   abbrev number : ℕ
   number = refineNumber mesh selection room

@@ -22,7 +22,7 @@ use Rattle.refine_cut.specs.Cut.{cutAt}
 use Rattle.refine_pass.specs.Passes.{exceeds, turn, passBelow, pass}
 use Rattle.refine_pass.specs.Law.{within, Kept, turns-kept, cut-record-count, cut-vertex-count}
 use Rattle.cuts_names.specs.Pieces.{Piece, Node, generation}
-use Rattle.cuts.specs.Sets.{Cuts, Within}
+use Rattle.cuts.specs.Sets.{Cuts, CutsWithin}
 use Rattle.cuts.specs.Depth.{CutsBelow, there-below}
 use Rattle.cuts.specs.Least.{OneMore, more-keeps, Reaches, stop, reached-below}
 use Rattle.cuts.specs.Tables.{HangsIn, nodeOf, Appended}
@@ -37,8 +37,8 @@ use Rattle.demands.specs.Link.{link}
 use Rattle.demands.specs.CutAppends.{Halfway, cutVertex, bases-stay, cut-after, cut-appends, cut-all-four, halfway-stays, halfway-made}
 
 -- The nodes of the chosen records.
-abbrev pub Selected : Check.Tables → (ℕ → Bool) → Node → Type 0
-Selected m chosen x = (n : ℕ) × (chosen n ≡ true) × (nodeOf (link m) n ≡ x)
+abbrev pub ChosenNode : Check.Tables → (ℕ → Bool) → Node → Type 0
+ChosenNode m chosen x = (n : ℕ) × (chosen n ≡ true) × (nodeOf (link m) n ≡ x)
 
 -- "Generations go up to 15", and what may be chosen: leaves of a generation below 15.
 abbrev pub UpToLast : Check.Tables → Type 0
@@ -49,7 +49,7 @@ Selectable m chosen = (n : ℕ) → chosen n ≡ true → (n < allRecords m) × 
 
 -- Why record n may be cut: it is a selected one, or one of its edges hangs.
 abbrev pub Ground : Check.Tables → (ℕ → Bool) → Check.Tables → ℕ → Type 0
-Ground m chosen t n = Selected m chosen (nodeOf (link t) n) ⊎ ((e : ℕ) × HangsIn (link t) n e)
+Ground m chosen t n = ChosenNode m chosen (nodeOf (link t) n) ⊎ ((e : ℕ) × HangsIn (link t) n e)
 
 -- ---- a stage
 
@@ -63,7 +63,7 @@ pub record Start (m : Check.Tables) : Type 0 where
 
 -- The tables t were grown from m by cutting selected and hanging leaves, and represent D.
 pub record Stage (m : Check.Tables) (start : Start m) (chosen : ℕ → Bool) (t : Check.Tables) (D : Cuts (start .count)) : Type 0 where
-  pub reached : Reaches (start .base) (Selected m chosen) (start .set) D
+  pub reached : Reaches (start .base) (ChosenNode m chosen) (start .set) D
   pub grown : Grown (start .base) (link t) D
   pub base-vertices : baseVertices t ≡ baseVertices m
   pub vertices : allVertices m ≤ allVertices t
@@ -94,7 +94,7 @@ module _ (m : Check.Tables) (start : Start m) (shallow : UpToLast m) where
       subst (λ (y : Node). generation y < lastGeneration) q young
 
   module _ (chosen : ℕ → Bool) (leaf : Selectable m chosen) where
-    selected-shallow : (x : Node) → Selected m chosen x → generation x < lastGeneration
+    selected-shallow : (x : Node) → ChosenNode m chosen x → generation x < lastGeneration
     selected-shallow x (n, c, q) =
         let (l, u, young) = leaf n c in
         let own : pieceAt m n .generation ≡ generation (nodeOf (link m) n) = linked (link m) (start .grown .lawful) n l .generation in
@@ -104,7 +104,7 @@ module _ (m : Check.Tables) (start : Start m) (shallow : UpToLast m) where
     module _ {t : Check.Tables} {D : Cuts (start .count)} (st : Stage m start chosen t D) where
       -- So the cuts of every stage have generations below 15, and its records of at most 15.
       pub stage-below : CutsBelow lastGeneration D
-      stage-below = reached-below (start .base) (Selected m chosen) (st .reached) (start .marked) 5 cuts-shallow selected-shallow
+      stage-below = reached-below (start .base) (ChosenNode m chosen) (st .reached) (start .marked) 5 cuts-shallow selected-shallow
 
       pub stage-young : (n : ℕ) → n < allRecords t → pieceAt t n .generation ≤ lastGeneration
       stage-young n l =
@@ -117,7 +117,7 @@ module _ (m : Check.Tables) (start : Start m) (shallow : UpToLast m) where
 pub record Later (m : Check.Tables) (start : Start m) (chosen : ℕ → Bool) (t : Check.Tables) (D : Cuts (start .count)) (t′ : Check.Tables) : Type 0 where
   pub set : Cuts (start .count)
   pub stage : Stage m start chosen t′ set
-  pub within : Within D set
+  pub within : CutsWithin D set
   pub records : allRecords t ≤ allRecords t′
   pub nodes : (n : ℕ) → n < allRecords t → nodeOf (link t′) n ≡ nodeOf (link t) n
 

@@ -31,8 +31,7 @@ use Rattle.build_marks.specs.Marking.{plainVertex, plainPiece, markedPiece, pla
 use Rattle.build_service.specs.Build.{notWhole, plainHeader, plainBytes}
 use Rattle.build_meaning.specs.Written.{Given, CountsFit, written, plain-corner-read, plain-length, header-read, vertex-read, record-read}
 use Rattle.build_meaning.specs.Shared.{shared-face-one-mark}
-use Rattle.demands.specs.BaseMesh.{BaseMesh, pointAt, CornerOf, OnFace, SameCorners, SameFace}
-use Rattle.demands.specs.PlainBase.{plainBase, Whole, CountsWithin, RightPlaces, RightPieces, RightTogether, AllUsed, Roomy}
+use Rattle.demands.specs.Words.{BaseMesh, pointAt, BaseCornerOf, OnBaseFace, SameBaseCorners, SameBaseFace, plainBase, Whole, CountsWithin, RightPlaces, RightPieces, RightTogether, AllUsed, Roomy}
 
 -- ---- 21 and 3: the lists' lengths
 
@@ -92,19 +91,19 @@ module _ (b : BaseMesh) where
   abbrev Agrees : Piece → ℕ → Type 0
   Agrees p r = (k : ℕ) → k < 4 → cornerAt p k ≡ b .cornerAt r k
 
-  corner-of : (p : Piece) (r : ℕ) → Agrees p r → (x : ℕ) → Accepted.CornerOf p x ↔ CornerOf b r x
+  corner-of : (p : Piece) (r : ℕ) → Agrees p r → (x : ℕ) → Accepted.CornerOf p x ↔ BaseCornerOf b r x
   corner-of p r a x = (λ c. let (k, l, e) = c in (k, l, sym (a k l) ∙ e), λ c. let (k, l, e) = c in (k, l, a k l ∙ e))
 
-  on-face : (p : Piece) (r i : ℕ) → Agrees p r → (x : ℕ) → Accepted.OnFace p i x ↔ OnFace b r i x
+  on-face : (p : Piece) (r i : ℕ) → Agrees p r → (x : ℕ) → Accepted.OnFace p i x ↔ OnBaseFace b r i x
   on-face p r i a x = (λ c. let (k, l, n, e) = c in (k, l, n, sym (a k l) ∙ e), λ c. let (k, l, n, e) = c in (k, l, n, a k l ∙ e))
 
-  pub same-corners : (p q : Piece) (r s : ℕ) → Agrees p r → Agrees q s → Accepted.SameCorners p q ↔ SameCorners b r s
+  pub same-corners : (p q : Piece) (r s : ℕ) → Agrees p r → Agrees q s → Accepted.SameCorners p q ↔ SameBaseCorners b r s
   same-corners p q r s a c = (
     λ h x. (λ t. corner-of q s c x .0 (h x .0 (corner-of p r a x .1 t)), λ t. corner-of p r a x .0 (h x .1 (corner-of q s c x .1 t))),
     λ h x. (λ t. corner-of q s c x .1 (h x .0 (corner-of p r a x .0 t)), λ t. corner-of p r a x .1 (h x .1 (corner-of q s c x .0 t))),
   )
 
-  pub same-face : (p q : Piece) (r i s j : ℕ) → Agrees p r → Agrees q s → Accepted.SameFace p i q j ↔ SameFace b r i s j
+  pub same-face : (p q : Piece) (r i s j : ℕ) → Agrees p r → Agrees q s → Accepted.SameFace p i q j ↔ SameBaseFace b r i s j
   same-face p q r i s j a c = (
     λ h x. (λ t. on-face q s j c x .0 (h x .0 (on-face p r i a x .1 t)), λ t. on-face p r i a x .0 (h x .1 (on-face q s j c x .1 t))),
     λ h x. (λ t. on-face q s j c x .1 (h x .0 (on-face p r i a x .0 t)), λ t. on-face p r i a x .1 (h x .1 (on-face q s j c x .0 t))),
@@ -245,7 +244,7 @@ module _ (job : ℕ) (coordinates : List ℤ) (corners : List ℕ) (g : Given jo
     agrees = corners-read inside
 
     -- "The last clause of 7 can't be broken."
-    marks-agree : (r n i j : ℕ) → r < b .pieces → n < b .pieces → i < 4 → j < 4 → SameFace b r i n j → markedEnds (pieceAt m r) i ≡ markedEnds (pieceAt m n) j
+    marks-agree : (r n i j : ℕ) → r < b .pieces → n < b .pieces → i < 4 → j < 4 → SameBaseFace b r i n j → markedEnds (pieceAt m r) i ≡ markedEnds (pieceAt m n) j
     marks-agree r n i j lr ln hi hj same =
         let p = plainPiece corners r in
         let q = plainPiece corners n in

@@ -30,9 +30,7 @@ use Rattle.cuts.specs.Sets.{Cuts}
 use Rattle.cuts.specs.Depth.{there-rooted}
 use Rattle.cuts.specs.Smaller.{by-smaller}
 use Rattle.cuts.specs.LinkNames.{base-or-beyond}
-use Rattle.demands.specs.BaseMesh.{BaseMesh, named, ProperlyMarked}
-use Rattle.demands.specs.Stored.{Numbers, VerticesNumbered, RecordsNumbered, vertexOf, recordOf, headerFor, written}
-use Rattle.demands.specs.StoredMesh.{RightSet}
+use Rattle.demands.specs.Words.{BaseMesh, named, ProperlyMarked, Numbering, VerticesNumbered, RecordsNumbered, vertexOf, recordOf, headerFor, written, RightSet}
 use Rattle.demands.specs.Holds.{Holds}
 use Rattle.demands.specs.MarkedBase.{properly-marked}
 use Rattle.demands.specs.Counts.{vertices-within, records-within}
@@ -74,7 +72,7 @@ valid-small s v =
       flag = ⊎-elim (λ e. omega arith) (λ e. omega arith) (or-passes (equal (s .flag) 0) (and-passes (equal (s .flag) 1) (λ t. t, λ t. t)) .0 (valid-is s .0 (v .valid) .1 .1));
     }
 
-module _ (b : BaseMesh) (C : Cuts (b .pieces)) (N : Numbers) (marked : ProperlyMarked b) where
+module _ (b : BaseMesh) (C : Cuts (b .pieces)) (N : Numbering) (marked : ProperlyMarked b) where
   -- Every place is held.
   places-held : VerticesNumbered b C N → (v : ℕ) → v < N .vertices → Held (N .placeAt v)
   places-held nv v h = by-smaller (λ v. v < N .vertices → Held (N .placeAt v)) step v h
@@ -96,7 +94,7 @@ module _ (b : BaseMesh) (C : Cuts (b .pieces)) (N : Numbers) (marked : ProperlyM
   pub record-valid : RecordsNumbered b C N → (r : ℕ) → r < N .records → Valid (pieceAt (named b) (N .nodeAt r) .shape)
   record-valid nr r h = node-valid (properly-marked b marked) (N .nodeAt r) (there-rooted C (N .nodeAt r) (nr .there r h))
 
-module _ (job round : ℕ) (b : BaseMesh) (C : Cuts (b .pieces)) (right : RightSet b C) (N : Numbers) (nv : VerticesNumbered b C N) (nr : RecordsNumbered b C N) (job-fits : U32 job) (round-fits : U16 round) where
+module _ (job round : ℕ) (b : BaseMesh) (C : Cuts (b .pieces)) (right : RightSet b C) (N : Numbering) (nv : VerticesNumbered b C N) (nr : RecordsNumbered b C N) (job-fits : U32 job) (round-fits : U16 round) where
   few-vertices : N .vertices ≤ 1024
   few-vertices = vertices-within limits b C (right .fits) N nv
 

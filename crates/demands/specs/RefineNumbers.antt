@@ -9,7 +9,7 @@ use native.Mathlib.Nat.{eq-or-lt-of-le, le-of-suc-le-suc}
 use native.Mathlib.Omega.{arith}
 use lib.ListN.{length, getD}
 use lib.Dec.{ltb}
-use Rattle.demands.specs.Stored.{fullSize}
+use Rattle.demands.specs.Words.{fullSize, RightSelectionLength, RightSelectionMark}
 use Rattle.laws.specs.Below.{either}
 use Rattle.stored.specs.declared.Limits.{Limits}
 use Rattle.stored.specs.Layout.{limits, meshLength, headerOf, selectionOf}
@@ -28,7 +28,7 @@ use Rattle.refine_selection.specs.Selected.{anotherRound}
 use Rattle.refine_pass.specs.Passes.{exceeds}
 use Rattle.refine_service.specs.Refine.{closed, resultOf, selectionRows, resultRows, refineNumber}
 use Rattle.refine_meaning.specs.Answer.{number-at-most, another-round-refused, job-kept, round-next}
-use Rattle.demands.specs.Selections.{RightSelectionLength, RightSelectionMark, SameJob, SameRound, RightNumbers, NamesLeaves, NamesNoneLast, RoundRises, EarnsNone, length-passes, mark-passes, rule11-holds, rule12-holds, rule13-holds, rule14-holds, rule15-holds, rule16-holds, rule17-holds, rule18-holds}
+use Rattle.demands.specs.Selections.{SameJob, SameRound, RightNumbers, NamesLeaves, NamesNoneLast, RoundRises, EarnsNone, length-passes, mark-passes, rule11-holds, rule12-holds, rule13-holds, rule14-holds, rule15-holds, rule16-holds, rule17-holds, rule18-holds}
 
 -- ---- what the rules ask
 

@@ -32,11 +32,7 @@ use Rattle.cuts.specs.Tables.{nameOf}
 use Rattle.cuts.specs.LinkNames.{base-or-beyond, name-base, name-made}
 use Rattle.cuts.specs.LinkSets.{made-by}
 use Rattle.cuts.specs.LinkGrown.{Grown}
-use Rattle.demands.specs.BaseMesh.{BaseMesh, named}
-use Rattle.demands.specs.Stored.{VerticesNumbered, Stores}
-use Rattle.demands.specs.StoredMesh.{RightSet, StoredMesh}
-use Rattle.demands.specs.Figures.{placeOf}
-use Rattle.demands.specs.Further.{GoodSelection}
+use Rattle.demands.specs.Words.{BaseMesh, named, VerticesNumbered, Stores, RightSet, StoredMesh, placeOf, GoodSelection}
 use Rattle.demands.specs.Link.{link}
 use Rattle.demands.specs.BaseOf.{numbersOf, node-makes}
 use Rattle.demands.specs.Numbered.{grown-vertices}

@@ -1,4 +1,4 @@
--- What refusals 11 to 18 leave of a selection, in document 01's words: of each row of "Numbers we give back" what holds where it is not
+-- What refusals 11 to 18 leave of a selection, in document 01's words: of each row of "Numbering we give back" what holds where it is not
 -- given, as plain statements about the selection's bytes and the mesh's tables, and that the row's test fails exactly there. Assumes nothing.
 use mathlib.Core.Path.{_≡_, sym, subst}
 use mathlib.Core.Logic.{_≢_, ⊎-elim}
@@ -17,26 +17,7 @@ use Rattle.check_refusals.specs.Tables.{Tables, tablesOf, allRecords, pieceAt}
 use Rattle.check_meaning.specs.Tests.{Passes, Fails, reads, equal, at-most, below, not-at-most, fails-unless, not-fails, and-passes, and-fails, or-fails, none-passes}
 use Rattle.check_meaning.specs.Accepted.{firstChild, Leaf, RightCuts}
 use Rattle.refine_selection.specs.Selected.{wrongSelectionLength, wrongSelectionMark, anotherJob, anotherRound, badNumber, badNumbers, namesCut, namesLast}
-
--- "count n (u16) at 11, then n record numbers (u16)": how many, and the i-th.
-abbrev pub countIn : List ℕ → ℕ
-countIn t = selectionOf t .count
-
--- ---- 11 and 12: the bytes
-
-pub record RightSelectionLength (t : List ℕ) : Type 0 where
-  -- no "selection under 13 bytes"
-  pub heading : 13 ≤ length t
-  -- no "length not 13 + 2n"
-  pub exact : length t ≡ 13 + 2 * countIn t
-
-pub record RightSelectionMark (t : List ℕ) : Type 0 where
-  -- "`TMS` at 0"
-  pub T : byteAt t 0 ≡ 84
-  pub M : byteAt t 1 ≡ 77
-  pub S : byteAt t 2 ≡ 83
-  -- "version 1 at 3"
-  pub version : u16At t 3 ≡ 1
+use Rattle.demands.specs.Words.{countIn, RightSelectionLength, RightSelectionMark}
 
 -- ---- 13 and 14: the job and the round
 

@@ -1,4 +1,5 @@
--- The services as the demands see them: what each answers, for every input. The code is proved to give just this (docs/OUTCOMES.md).
+-- Services as the demands see them: what each answers, for every input. The demands are said of any services; that ours meet them, and that the
+-- impostors don't, are theorems.
 use mathlib.Core.List.{List}
 use Prim.Native.Nat.{ℕ}
 use lib.IntN.{ℤ}
@@ -7,20 +8,16 @@ use Rattle.check_refusals.specs.Check.{checkOf}
 use Rattle.build_service.specs.Build.{buildNumber, buildBytes}
 use Rattle.refine_service.specs.Refine.{refineNumber, refineBytes}
 
--- Check's number and figures.
-abbrev pub check : List ℕ → Report
-check mesh = checkOf mesh
+pub record Services : Type 0 where
+  -- Check's number, figures and place, for a byte string.
+  pub check : List ℕ → Report
+  -- Build's number, for a job, coordinates, corners and an output buffer of so many bytes, and all bytes of the buffer.
+  pub build : ℕ → List ℤ → List ℕ → ℕ → ℕ
+  pub buildOut : ℕ → List ℤ → List ℕ → ℕ → List ℕ
+  -- Refine's, for a mesh, a selection and an output buffer of so many bytes.
+  pub refine : List ℕ → List ℕ → ℕ → ℕ
+  pub refineOut : List ℕ → List ℕ → ℕ → List ℕ
 
--- Build's number, for an output buffer of so many bytes, and all bytes of the buffer.
-abbrev pub build : ℕ → List ℤ → List ℕ → ℕ → ℕ
-build job coordinates corners room = buildNumber job coordinates corners room
-
-abbrev pub buildOut : ℕ → List ℤ → List ℕ → ℕ → List ℕ
-buildOut job coordinates corners room = buildBytes job coordinates corners room
-
--- Refine's, likewise.
-abbrev pub refine : List ℕ → List ℕ → ℕ → ℕ
-refine mesh selection room = refineNumber mesh selection room
-
-abbrev pub refineOut : List ℕ → List ℕ → ℕ → List ℕ
-refineOut mesh selection room = refineBytes mesh selection room
+-- The services of this library. The code is proved to give just these (docs/OUTCOMES.md).
+abbrev pub ours : Services
+ours = record { check = checkOf; build = buildNumber; buildOut = buildBytes; refine = refineNumber; refineOut = refineBytes }

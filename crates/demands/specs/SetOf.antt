@@ -17,15 +17,14 @@ use Rattle.check_refusals.specs.Tables.{baseVertices, allVertices, allRecords, 
 use Rattle.check_meaning.specs.Accepted as Accepted
 use Rattle.check_meaning.specs.Accepted.{HasParents, parentP, parentQ}
 use Rattle.cuts_names.specs.Pieces.{Node, generation}
-use Rattle.cuts.specs.Sets.{Cuts, Within, NoneHangs}
+use Rattle.cuts.specs.Sets.{Cuts, CutsWithin, NoneHangs}
 use Rattle.cuts.specs.Count.{CutList, MadeList, cuts-fewer, made-fewer}
 use Rattle.cuts.specs.Tables.{Lawful, nodeOf, Represents}
 use Rattle.cuts.specs.LinkLists.{where-length}
 use Rattle.cuts.specs.LinkNodes.{linked}
 use Rattle.cuts.specs.LinkSets.{cutNodes, madeNames, made-count, there-node, cuts-listed, made-listed, records-count}
 use Rattle.cuts.specs.LinkGrown.{Grown, grown-rests}
-use Rattle.demands.specs.BaseMesh.{BaseMesh, named}
-use Rattle.demands.specs.Stored.{Fits, Shallow}
+use Rattle.demands.specs.Words.{BaseMesh, named, Fits, Shallow}
 use Rattle.demands.specs.Link.{link}
 use Rattle.check_meaning.specs.Cuts.{is-leaf}
 use Rattle.demands.specs.BaseOf.{node-makes}
@@ -97,7 +96,7 @@ module _ (m : Check.Tables) (b : BaseMesh) (D : Cuts (b .pieces)) (g : Grown (na
         }
 
     -- Where the tables are not, no set with all these cuts is.
-    pub grown-not-fits : (most : Limits) → (most .vertices < allVertices m) ⊎ (most .records < allRecords m) → (X : Cuts (b .pieces)) → Within D X → Fits most b X → ⊥
+    pub grown-not-fits : (most : Limits) → (most .vertices < allVertices m) ⊎ (most .records < allRecords m) → (X : Cuts (b .pieces)) → CutsWithin D X → Fits most b X → ⊥
     grown-not-fits most beyond X inside fits =
         ⊎-elim
         (λ v. omega (arith, v, grown-counts .1, fits .vertices, made-fewer D X inside (named b) (madeNames (link m)) (fits .made) grown-made (fits .made-listed)))

@@ -16,9 +16,7 @@ use Rattle.check_meaning.specs.Cuts.{stored-four}
 use Rattle.cuts.specs.Sets.{Cuts}
 use Rattle.cuts.specs.LinkSets.{cutsOf, represented}
 use Rattle.cuts.specs.LinkGrown.{Grown}
-use Rattle.demands.specs.BaseMesh.{named}
-use Rattle.demands.specs.Stored.{written}
-use Rattle.demands.specs.StoredMesh.{StoredMesh}
+use Rattle.demands.specs.Words.{named, written, StoredMesh}
 use Rattle.demands.specs.Link.{link}
 use Rattle.demands.specs.Lawful.{accepted-lawful}
 use Rattle.demands.specs.BaseOf.{baseOf, numbersOf, base-grown}

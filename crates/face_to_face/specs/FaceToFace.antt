@@ -1,25 +1,26 @@
 -- Request thirteen. "A mesh without hanging nodes can fail to meet face to face (document 002, figure 6); the labs want it shown that ours don't. For every
 -- accepted mesh: each face of a leaf is in exactly two leaves, or it is in one leaf and lies in a base face that is in one base record only; and two leaves
 -- that share a face mark it alike." The words are `Words`.
-use mathlib.Core.Path.{_≡_}
+use mathlib.Core.Path.{_≡_, sym, _∙_}
 use mathlib.Core.List.{List, _++_}
-use Prim.Native.Nat.{ℕ, _-_}
+use Prim.Native.Nat.{ℕ, _-_, _≤_}
 use lib.ListN.{length, replicate}
 use lib.IntN.{ℤ}
 use Rattle.laws.specs.Lists.{Bytes}
-use Rattle.stored.specs.Layout.{meshBytes}
 use Rattle.check_refusals.specs.Tables.{tablesOf}
 use Rattle.check_refusals.specs.Check.{checkNumber}
+use Rattle.check_refusals.specs.Rows.{report-number}
 use Rattle.check_meaning.specs.Exactly.{accepts-exactly}
 use Rattle.build_service.specs.Build.{plainBytes, buildNumber, buildBytes}
-use Rattle.build_meaning.specs.Accepts.{check-accepts}
+use Rattle.build_meaning.specs.Accepts.{passed, check-accepts}
 use Rattle.build_meaning.specs.Output as Build
-use Rattle.refine_service.specs.Refine.{closed, resultOf, refineNumber, refineBytes}
-use Rattle.refine_meaning.specs.Answer as Refine
-use Rattle.demands.specs.BuildWords.{ArgumentTypes}
+use Rattle.refine_service.specs.Refine.{refineNumber, refineBytes}
+use Rattle.demands.specs.Words.{ArgumentTypes}
 use Rattle.demands.specs.GivenTypes.{given-by-types}
+use Rattle.demands.specs.RefineNumbers.{refine-accepts-all}
+use Rattle.demands.specs.StoredOf.{stored-of-accepted}
+use Rattle.demands.specs.Demand3.{any-room, accepted-again}
 use Rattle.face_to_face.specs.Words.{FaceToFace}
-use Rattle.face_to_face.specs.Refined.{refined-accepted}
 use Rattle.face_to_face.specs.Carried.{accepted-meets}
 
 -- For every accepted mesh.
@@ -29,6 +30,7 @@ face-to-face s e = accepted-meets s (accepts-exactly s .0 e)
 -- A buffer of so many bytes holds a mesh that meets face to face, and zeros past it.
 pub record Meets (bytes : List ℕ) (room : ℕ) : Type 0 where
   pub mesh : List ℕ
+  pub fits-room : length mesh ≤ room
   pub buffer : bytes ≡ mesh ++ replicate (room - length mesh) 0
   pub accepted : checkNumber mesh ≡ 0
   pub meets : FaceToFace (tablesOf mesh)
@@ -39,15 +41,12 @@ pub built-meets : (job : ℕ) (coordinates : List ℤ) (corners : List ℕ) → 
     Meets (buildBytes job coordinates corners room) room
 built-meets job coordinates corners types room e =
     let accepted = check-accepts job coordinates corners room (given-by-types job coordinates corners types) e in
-    record { mesh = plainBytes job coordinates corners; buffer = Build.accepted-bytes job coordinates corners room e; accepted = accepted; meets = face-to-face _ accepted }
+    record { mesh = plainBytes job coordinates corners; fits-room = passed job coordinates corners room e .fits; buffer = Build.accepted-bytes job coordinates corners room e; accepted = accepted; meets = face-to-face _ accepted }
 
 -- And of whatever refine accepts. `Bytes` says that the elements of the first byte string are bytes, as those of a `&[u8]` are.
 pub refined-meets : (s selection : List ℕ) → Bytes s → (room : ℕ) → refineNumber s selection room ≡ 0 → Meets (refineBytes s selection room) room
 refined-meets s selection bytes room e =
-    let accepted = refined-accepted s selection bytes room e in
-    record {
-      mesh = meshBytes (resultOf (closed s selection));
-      buffer = Refine.accepted-bytes s selection room e;
-      accepted = accepts-exactly _ .1 accepted;
-      meets = accepted-meets _ accepted;
-    }
+    let x = stored-of-accepted s bytes (refine-accepts-all s selection room .0 e .accepted) in
+    let r = any-room s x selection room e in
+    let accepted = accepted-again s x selection (refineBytes s selection room) room r in
+    record { mesh = r .mesh; fits-room = r .fits-room; buffer = r .written; accepted = sym (report-number (r .mesh)) ∙ accepted; meets = face-to-face _ (sym (report-number (r .mesh)) ∙ accepted) }
