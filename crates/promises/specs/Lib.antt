@@ -1,0 +1,2 @@
+-- What the user asked of each C function's answer.
+pub mod Promises

@@ -1,0 +1,67 @@
+-- What the user asked of each C function's answer, for every input: the demands with no hypothesis left. The words are those of `demands/specs/Words` and of
+-- the demands' pages.
+use mathlib.Core.Path.{_≡_, sym, subst}
+use mathlib.Core.Logic.{_↔_, _≢_}
+use mathlib.Core.List.{List}
+use Prim.Native.Nat.{ℕ, _≤_, _<_}
+use lib.ListN.{length, getD}
+use lib.IntN.{ℤ, pos}
+use Rattle.laws.specs.Lists.{Bytes}
+use Rattle.stored.specs.Layout.{selectionOf}
+use Rattle.check_refusals.specs.declared.Report.{Report}
+use Rattle.check_refusals.specs.Tables.{tablesOf}
+use Rattle.check_refusals.specs.Check.{checkOf}
+use Rattle.build_service.specs.Build.{buildNumber, buildBytes}
+use Rattle.refine_service.specs.Refine.{refineNumber, refineBytes}
+use Rattle.demands.specs.Words.{I16, fullSize, StoredMesh, Figures, ArgumentTypes, BuildAccepts, BuiltMesh, RightSelectionLength, RightSelectionMark, GoodFor, LeastOrFullFrom}
+use Rattle.demands.specs.Demand1.{CheckOutcome, BuildOutcome, RefineOutcome, check-outcome, build-outcome, refine-outcome}
+use Rattle.demands.specs.Demand2.{demand-2}
+use Rattle.demands.specs.Demand3.{demand-3}
+
+-- ---- check
+
+pub record CheckPromise (mesh : List ℕ) (r : Report) : Type 0 where
+  -- demand 1
+  pub outcome : CheckOutcome mesh r
+  -- demand 2
+  pub exactly : (r .number ≡ 0) ↔ StoredMesh mesh
+  pub figures : (x : StoredMesh mesh) → Figures (x .base) (x .cuts) (r .leaves) (r .deepest) (r .sixfold)
+
+pub check-promised : (mesh : List ℕ) → Bytes mesh → CheckPromise mesh (checkOf mesh)
+check-promised mesh bytes =
+    let both = demand-2 .accepted-exactly mesh in
+    record { outcome = check-outcome mesh; exactly = (λ e. both .0 (bytes, e), λ x. both .1 x .1); figures = demand-2 .figures mesh }
+
+-- ---- build
+
+-- Each of them is an i16.
+pub record EachI16 (coordinates : List ℤ) : Type 0 where
+  pub each : (k : ℕ) → k < length coordinates → I16 (getD coordinates k (pos 0))
+
+pub record BuildPromise (job : ℕ) (coordinates : List ℤ) (corners : List ℕ) (room number : ℕ) (out : List ℕ) : Type 0 where
+  -- demand 1
+  pub outcome : BuildOutcome job coordinates corners room number out
+  -- demand 2
+  pub exactly : (number ≡ 0) ↔ BuildAccepts coordinates corners room
+  pub stores : number ≡ 0 → BuiltMesh job coordinates corners out room
+
+pub build-promised : (job : ℕ) (coordinates : List ℤ) (corners : List ℕ) → ArgumentTypes job coordinates corners → (room : ℕ) →
+    BuildPromise job coordinates corners room (buildNumber job coordinates corners room) (buildBytes job coordinates corners room)
+build-promised job coordinates corners types room =
+    record {
+      outcome = build-outcome job coordinates corners types room;
+      exactly = demand-2 .build-accepts job coordinates corners types room;
+      stores = demand-2 .build-stores job coordinates corners types room;
+    }
+
+-- ---- refine
+
+pub record RefinePromise (mesh selection : List ℕ) (room number : ℕ) (out : List ℕ) : Type 0 where
+  -- demand 1, and what is accepted, whatever the buffer's length
+  pub outcome : RefineOutcome mesh selection room number out
+  -- demand 3
+  pub least-or-full : (x : StoredMesh mesh) → GoodFor x selection → fullSize ≤ room → LeastOrFullFrom x selection number out room
+
+pub refine-promised : (mesh selection : List ℕ) → Bytes mesh → (room : ℕ) → RefinePromise mesh selection room (refineNumber mesh selection room) (refineBytes mesh selection room)
+refine-promised mesh selection bytes room =
+    record { outcome = refine-outcome mesh selection bytes room; least-or-full = λ x good full-size. demand-3 .least-or-full mesh x selection good room full-size }

@@ -1,0 +1,36 @@
+// What the user asked, as contracts: for each C function of `station` one function that calls it and ensures the demands of its answer, for every input
+// and with no hypothesis left. Nothing here is linked.
+use check_refusals::Report;
+ghost use lib.ListN.{length};
+ghost use Rattle.demands.specs.Words.{I16};
+ghost use Rattle.promises.specs.Promises.{EachI16, CheckPromise, BuildPromise, RefinePromise};
+
+pub fn check(mesh: &[u8]) -> Report
+    ensures { λ r. ⌜ CheckPromise (now (mesh .entry)) r ⌝ }
+{
+    station::tmb_check(mesh)
+}
+
+// That a slice of i16 holds such numbers is learnt where each is read.
+fn are_i16(coordinates: &[i16])
+    ensures { λ _. ⌜ EachI16 (now (coordinates .entry)) ⌝ }
+{
+    let mut i: usize = 0;
+    while i < coordinates.len() {
+        let read = coordinates[i];
+        i += 1;
+    }
+}
+
+pub fn build(job: u32, coordinates: &[i16], corners: &[u16], out: &mut [u8]) -> u32
+    ensures { λ r. ⌜ BuildPromise job (now (coordinates .entry)) (now (corners .entry)) (length (now (out .entry))) r (now (out .exit)) ⌝ }
+{
+    are_i16(coordinates);
+    station::tmb_build(job, coordinates, corners, out)
+}
+
+pub fn refine<'a>(mesh: &'a [u8], selection: &'a [u8], out: &mut [u8]) -> u32
+    ensures { λ r. ⌜ RefinePromise (now (mesh .entry)) (now (selection .entry)) (length (now (out .entry))) r (now (out .exit)) ⌝ }
+{
+    station::tmb_refine(mesh, selection, out)
+}
