@@ -1,5 +1,5 @@
 -- The place found hanging, as the search returns it.
-use mathlib.Core.Path.{_≡_, sym, _∙_}
+use mathlib.Core.Path.{_≡_, refl, sym, _∙_}
 use mathlib.Core.Bool.{Bool, true, false, not, cond, _&&_}
 use mathlib.Core.Logic.{⊎-elim}
 use mathlib.Core.List.{List}
@@ -15,14 +15,29 @@ use Rattle.piece.specs.declared.Ends.{Ends}
 use Rattle.piece.specs.Ends.{endsOf, endsAt, ends-at}
 use Rattle.check_hanging.specs.declared.Found.{Found}
 use Rattle.check_hanging.specs.declared.Found.the-variants.{At, Nothing}
+use Rattle.check_refusals.specs.declared.Report.{Report}
 use Rattle.check_refusals.specs.Tables.{Tables, baseVertices, allVertices, allRecords, pieceAt, isLeaf, hasParents, hangs}
 use Rattle.check_refusals.specs.Bounded.{Bounded, beyond, not-beyond}
 use Rattle.check_refusals.specs.Refusals.{hangsAt, leafHangs, hangingEdge}
-use Rattle.check_refusals.specs.Check.{firstHanging}
+use Rattle.check_refusals.specs.Check.{firstHanging, refusedWith, hangingReport}
 use Rattle.check_parents.specs.Pairs.{pairHeads, pairKey, keyOf, Linked, pair-key-within, has-key, any-with-is}
 
 unfoldable pub foundOf : Tables → Found
 foundOf m = cond (hangingEdge m) (At (firstHanging m) (firstBelow 6 (hangsAt m (firstHanging m)))) Nothing
+
+-- "If an answer is an enum, a definition gives this paper's number and values for each of its cases."
+abbrev pub reported : Found → Report
+reported (At n e) = record { number = 10; leaves = 0; deepest = 0; sixfold = 0; «record» = n; edge = e }
+reported Nothing = refusedWith 0
+
+-- It is check's own report of a hanging edge.
+pub found-reported : (m : Tables) → reported (foundOf m) ≡ cond (hangingEdge m) (hangingReport m) (refusedWith 0)
+unfolding foundOf
+found-reported m = go (hangingEdge m)
+  where
+    go : (b : Bool) → reported (cond b (At (firstHanging m) (firstBelow 6 (hangsAt m (firstHanging m)))) Nothing) ≡ cond b (hangingReport m) (refusedWith 0)
+    go true = refl
+    go false = refl
 
 -- Counts beyond their limits have been refused before: there nothing is looked for.
 unfoldable pub foundWithin : Tables → Found

@@ -1,22 +1,15 @@
 -- The rules in their order, as the code tries them.
-use mathlib.Core.Path.{_≡_, refl, sym}
+use mathlib.Core.Path.{_≡_, refl, sym, _∙_}
 use mathlib.Core.Bool.{Bool, true, false, cond}
 use mathlib.Core.List.{List, [], _∷_}
 use Prim.Native.Nat.{ℕ}
-use native.Mathlib.Omega.{arith}
 use Rattle.stored.specs.Layout.{limits, headerOf, rightLength, rightMark}
-use Rattle.laws.specs.Below.{firstBelow}
-use Rattle.check_hanging.specs.declared.Found.the-variants.{At, Nothing}
-use Rattle.check_hanging.specs.Hanging.{foundOf}
+use Rattle.check_hanging.specs.Hanging.{foundOf, reported, found-reported}
 use Rattle.check_refusals.specs.Tables.{Tables, tablesOf}
 use Rattle.check_refusals.specs.declared.Report.{Report}
-use Rattle.check_refusals.specs.Refusals.{wrongLength, wrongMark, wrongCounts, badVertices, badBaseRecords, badBaseMarks, badBaseFaces, unusedVertices, badCuts, hangsAt, hangingEdge}
-use Rattle.check_refusals.specs.Check.{row, tableRows, rows, firstBroken, checkNumber, firstHanging, refusedWith, hangingReport, reportOf, checkOf}
+use Rattle.check_refusals.specs.Refusals.{wrongLength, wrongMark, wrongCounts, badVertices, badBaseRecords, badBaseMarks, badBaseFaces, unusedVertices, badCuts, hangingEdge}
+use Rattle.check_refusals.specs.Check.{row, tableRows, rows, firstBroken, checkNumber, refusedWith, hangingReport, reportOf, checkOf}
 use Rattle.check_service.specs.Verdict.{withoutFigures}
-
--- Refusal 10, or 0.
-unfoldable pub closedReport : Tables → Report
-closedReport m = cond (hangingEdge m) (hangingReport m) (refusedWith 0)
 
 -- Refusals 4 to 10, tried in their order, or 0.
 unfoldable pub judgedReport : Tables → Report
@@ -26,27 +19,7 @@ judgedReport m =
     (cond (badBaseMarks m) (refusedWith 6)
     (cond (badBaseFaces m) (refusedWith 7)
     (cond (unusedVertices m) (refusedWith 8)
-    (cond (badCuts m) (refusedWith 9) (closedReport m))))))
-
--- What the search found is what is reported.
-pub found-at : (m : Tables) (n e : ℕ) → At n e ≡ foundOf m → record { number = 10; leaves = 0; deepest = 0; sixfold = 0; «record» = n; edge = e } ≡ closedReport m
-unfolding foundOf closedReport
-found-at m n e is = go (hangingEdge m) is
-  where
-    go : (b : Bool) → At n e ≡ cond b (At (firstHanging m) (firstBelow 6 (hangsAt m (firstHanging m)))) Nothing → record { number = 10; leaves = 0; deepest = 0; sixfold = 0; «record» = n; edge = e } ≡ cond b (hangingReport m) (refusedWith 0)
-    go true q =
-        let record-is : n ≡ firstHanging m = cc in
-        let edge-is : e ≡ firstBelow 6 (hangsAt m (firstHanging m)) = cc in
-        λ i. record { number = 10; leaves = 0; deepest = 0; sixfold = 0; «record» = record-is i; edge = edge-is i }
-    go false q = let z : _≡_ {A = ℕ} 0 1 = cc in absurd (omega arith)
-
-pub found-nothing : (m : Tables) → Nothing ≡ foundOf m → refusedWith 0 ≡ closedReport m
-unfolding foundOf closedReport
-found-nothing m is = go (hangingEdge m) is
-  where
-    go : (b : Bool) → Nothing ≡ cond b (At (firstHanging m) (firstBelow 6 (hangsAt m (firstHanging m)))) Nothing → refusedWith 0 ≡ cond b (hangingReport m) (refusedWith 0)
-    go true q = let z : _≡_ {A = ℕ} 0 1 = cc in absurd (omega arith)
-    go false q = refl
+    (cond (badCuts m) (refusedWith 9) (reported (foundOf m)))))))
 
 -- ---- the order of the rules
 
@@ -77,8 +50,15 @@ module _ (s : List ℕ) where
   verdict-3 e f g = rw (e, f, g)
 
   pub verdict-rest : rightLength s ≡ true → rightMark s ≡ true → wrongCounts limits (headerOf s) ≡ false → judgedReport (tablesOf s) ≡ withoutFigures (checkOf s)
-  unfolding checkOf checkNumber rows firstBroken wrongLength wrongMark judgedReport closedReport tableRows
+  unfolding checkOf checkNumber rows firstBroken wrongLength wrongMark judgedReport tableRows
   verdict-rest e f g =
       let m = tablesOf s in
-      rw (e, f, g)
+      rw (e, f, g, found-reported m)
       (sym (in-order m (badVertices m) (badBaseRecords m) (badBaseMarks m) (badBaseFaces m) (unusedVertices m) (badCuts m) (hangingEdge m)))
+
+  -- Where rules 1 to 9 hold, what check reports, but for the figures, is the paper's number and values for what the search found.
+  pub verdict-found : rightLength s ≡ true → rightMark s ≡ true → wrongCounts limits (headerOf s) ≡ false → let m = tablesOf s in
+      badVertices m ≡ false → badBaseRecords m ≡ false → badBaseMarks m ≡ false → badBaseFaces m ≡ false → unusedVertices m ≡ false → badCuts m ≡ false →
+      withoutFigures (checkOf s) ≡ reported (foundOf m)
+  unfolding judgedReport
+  verdict-found b₁ b₂ b₃ b₄ b₅ b₆ b₇ b₈ b₉ = sym (verdict-rest b₁ b₂ b₃) ∙ rw (b₄, b₅, b₆, b₇, b₈, b₉)

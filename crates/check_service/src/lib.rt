@@ -9,8 +9,9 @@ ghost use Rattle.check_refusals.specs.Tables.{tables};
 ghost use Rattle.check_refusals.specs.Refusals.{wrongCounts};
 ghost use Rattle.check_refusals.specs.Check.{refusedWith, accepted, checkOf};
 ghost use Rattle.check_refusals.specs.Bounded.{Bounded};
+ghost use Rattle.check_hanging.specs.Hanging.{foundOf, reported};
 ghost use Rattle.check_service.specs.Verdict.{withoutFigures};
-ghost use Rattle.check_service.specs.Order.{closedReport, judgedReport};
+ghost use Rattle.check_service.specs.Order.{judgedReport};
 
 fn refused(number: u64) -> Report
     ensures { λ r. ⌜ r ≡ refusedWith number ⌝ }
@@ -50,7 +51,7 @@ fn wrong_counts(most: Limits, h: Header) -> bool
 // Refusal 10, or 0.
 fn closed<'a>(h: Header, l: Layout, base: &'a [u8], grown: &'a [u8]) -> Report
     requires { ⌜ Bounded h ⌝ }
-    ensures { λ r. ⌜ r ≡ closedReport (tables h l (now (base .entry)) (now (grown .entry))) ⌝ }
+    ensures { λ r. ⌜ r ≡ reported (foundOf (tables h l (now (base .entry)) (now (grown .entry)))) ⌝ }
 {
     let found = check_hanging::first_hanging(h, l, base, grown);
     match found {
