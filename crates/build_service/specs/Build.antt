@@ -1,4 +1,5 @@
 -- What build answers, for every job number, all coordinates and corners, and every length of the output buffer.
+use mathlib.Core.Path.{_≡_, sym, _∙_}
 use mathlib.Core.Bool.{Bool, not, cond, _||_}
 use mathlib.Core.List.{List, [], _∷_, _++_}
 use Prim.Native.Nat.{ℕ, _-_, _/_, _%_}
@@ -64,3 +65,13 @@ buildBytes job coordinates corners room =
     let bytes = plainBytes job coordinates corners in
     let stored = bytes ++ replicate (room - length bytes) 0 in
     cond (eqb (buildNumber job coordinates corners room) 0) stored (replicate room 0)
+
+-- "Each public function states one outcome for each input: number, counts and all bytes of the output, refused or not."
+pub record BuildOutcomeIs (job : ℕ) (coordinates : List ℤ) (corners : List ℕ) (room r : ℕ) (out : List ℕ) : Type 0 where
+  pub number : r ≡ buildNumber job coordinates corners room
+  pub bytes : out ≡ buildBytes job coordinates corners room
+
+-- "That no second outcome fits is itself proved"
+pub one-build : (job : ℕ) (coordinates : List ℤ) (corners : List ℕ) (room r r′ : ℕ) (out out′ : List ℕ) →
+    BuildOutcomeIs job coordinates corners room r out → BuildOutcomeIs job coordinates corners room r′ out′ → (r ≡ r′) × (out ≡ out′)
+one-build job coordinates corners room r r′ out out′ is is′ = (is .number ∙ sym (is′ .number), is .bytes ∙ sym (is′ .bytes))

@@ -9,7 +9,7 @@ ghost use Rattle.stored.specs.Layout.{limits, assembled};
 ghost use Rattle.check_refusals.specs.Tables.{tables};
 ghost use Rattle.check_refusals.specs.Refusals.{wrongCounts};
 ghost use Rattle.check_refusals.specs.Bounded.{Bounded};
-ghost use Rattle.build_service.specs.Build.{notWhole, plainHeader, plainBytes, buildNumber, buildBytes};
+ghost use Rattle.build_service.specs.Build.{notWhole, plainHeader, plainBytes, BuildOutcomeIs};
 ghost use Rattle.build_service.specs.Storing.{verticesPut, recordsPut, Ready, judgedNumber, laterNumber, laterBytes};
 
 // Refusal 21.
@@ -167,8 +167,7 @@ fn store(job: u32, coordinates: &[i16], corners: &[u16], out: &mut [u8]) -> u32
 }
 
 pub fn build(job: u32, coordinates: &[i16], corners: &[u16], out: &mut [u8]) -> u32
-    ensures { λ r. ⌜ r ≡ buildNumber job (now (coordinates .entry)) (now (corners .entry)) (length (now (out .entry))) ⌝ }
-    ensures { λ _. ⌜ now (out .exit) ≡ buildBytes job (now (coordinates .entry)) (now (corners .entry)) (length (now (out .entry))) ⌝ }
+    ensures { λ r. ⌜ BuildOutcomeIs job (now (coordinates .entry)) (now (corners .entry)) (length (now (out .entry))) r (now (out .exit)) ⌝ }
 {
     slices_written::clear(out);
     if not_whole(coordinates, corners) {

@@ -1,4 +1,5 @@
 -- What check answers, for every byte string: document 01, "Numbers we give back".
+use mathlib.Core.Path.{_≡_, sym, _∙_}
 use mathlib.Core.Bool.{Bool, cond}
 use mathlib.Core.List.{List, [], _∷_}
 use Prim.Native.Nat.{ℕ}
@@ -86,3 +87,11 @@ reportOf m number =
 -- What check returns, for every byte string.
 unfoldable pub checkOf : List ℕ → Report
 checkOf s = reportOf (tablesOf s) (checkNumber s)
+
+-- "Each public function states one outcome for each input": r is the one for the byte string s.
+abbrev pub CheckOutcomeIs : List ℕ → Report → Type 0
+CheckOutcomeIs s r = r ≡ checkOf s
+
+-- "That no second outcome fits is itself proved"
+pub one-check : (s : List ℕ) (r r′ : Report) → CheckOutcomeIs s r → CheckOutcomeIs s r′ → r ≡ r′
+one-check s r r′ is is′ = is ∙ sym is′

@@ -19,6 +19,13 @@ use Rattle.check_refusals.specs.Check.{rows, tableRows, firstBroken, checkNumbe
 abbrev pub withoutFigures : Report → Report
 withoutFigures r = record { number = r .number; leaves = 0; deepest = 0; sixfold = 0; «record» = r .«record»; edge = r .edge }
 
+-- The one outcome of the verdict on the byte string s, and no second fits.
+abbrev pub VerdictIs : List ℕ → Report → Type 0
+VerdictIs s r = r ≡ withoutFigures (checkOf s)
+
+pub one-verdict : (s : List ℕ) (r r′ : Report) → VerdictIs s r → VerdictIs s r′ → r ≡ r′
+one-verdict s r r′ is is′ = is ∙ sym is′
+
 module _ (s : List ℕ) where
   -- A refusal has none.
   pub refused-whole : checkOf s .number ≢ 0 → withoutFigures (checkOf s) ≡ checkOf s

@@ -7,10 +7,10 @@ use stored::Limits;
 ghost use mathlib.Core.Path.{_≡_};
 ghost use Rattle.check_refusals.specs.Tables.{tables};
 ghost use Rattle.check_refusals.specs.Refusals.{wrongCounts};
-ghost use Rattle.check_refusals.specs.Check.{refusedWith, accepted, checkOf};
+ghost use Rattle.check_refusals.specs.Check.{refusedWith, accepted, CheckOutcomeIs};
 ghost use Rattle.check_refusals.specs.Bounded.{Bounded};
 ghost use Rattle.check_hanging.specs.Hanging.{foundOf, reported};
-ghost use Rattle.check_service.specs.Verdict.{withoutFigures};
+ghost use Rattle.check_service.specs.Verdict.{VerdictIs};
 ghost use Rattle.check_service.specs.Order.{judgedReport};
 
 fn refused(number: u64) -> Report
@@ -95,7 +95,7 @@ fn judged<'a>(h: Header, l: Layout, base: &'a [u8], grown: &'a [u8]) -> Report
 
 // Check's answer without the figures.
 pub fn verdict(mesh: &[u8]) -> Report
-    ensures { λ r. ⌜ r ≡ withoutFigures (checkOf (now (mesh .entry))) ⌝ }
+    ensures { λ r. ⌜ VerdictIs (now (mesh .entry)) r ⌝ }
 {
     if !stored_headers::right_length(mesh) {
         return refused(1);
@@ -126,7 +126,7 @@ fn accepted_with<'a>(h: Header, l: Layout, base: &'a [u8], grown: &'a [u8]) -> R
 }
 
 pub fn check(mesh: &[u8]) -> Report
-    ensures { λ r. ⌜ r ≡ checkOf (now (mesh .entry)) ⌝ }
+    ensures { λ r. ⌜ CheckOutcomeIs (now (mesh .entry)) r ⌝ }
 {
     let r = verdict(mesh);
     if r.number != 0 {

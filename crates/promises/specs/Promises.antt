@@ -1,6 +1,6 @@
 -- What the user asked of each C function's answer, for every input: the demands with no hypothesis left. The words are those of `demands/specs/Words` and of
 -- the demands' pages.
-use mathlib.Core.Path.{_≡_, sym, subst}
+use mathlib.Core.Path.{_≡_, sym, subst, subst₂}
 use mathlib.Core.Logic.{_↔_, _≢_}
 use mathlib.Core.List.{List}
 use Prim.Native.Nat.{ℕ, _≤_, _<_}
@@ -10,9 +10,9 @@ use Rattle.laws.specs.Lists.{Bytes}
 use Rattle.stored.specs.Layout.{selectionOf}
 use Rattle.check_refusals.specs.declared.Report.{Report}
 use Rattle.check_refusals.specs.Tables.{tablesOf}
-use Rattle.check_refusals.specs.Check.{checkOf}
-use Rattle.build_service.specs.Build.{buildNumber, buildBytes}
-use Rattle.refine_service.specs.Refine.{refineNumber, refineBytes}
+use Rattle.check_refusals.specs.Check.{CheckOutcomeIs}
+use Rattle.build_service.specs.Build.{BuildOutcomeIs}
+use Rattle.refine_service.specs.Refine.{RefineOutcomeIs}
 use Rattle.demands.specs.Words.{I16, fullSize, StoredMesh, Figures, ArgumentTypes, BuildAccepts, BuiltMesh, RightSelectionLength, RightSelectionMark, GoodFor, LeastOrFullFrom}
 use Rattle.demands.specs.Demand1.{CheckOutcome, BuildOutcome, RefineOutcome, check-outcome, build-outcome, refine-outcome}
 use Rattle.demands.specs.Demand2.{demand-2}
@@ -27,10 +27,11 @@ pub record CheckPromise (mesh : List ℕ) (r : Report) : Type 0 where
   pub exactly : (r .number ≡ 0) ↔ StoredMesh mesh
   pub figures : (x : StoredMesh mesh) → Figures (x .base) (x .cuts) (r .leaves) (r .deepest) (r .sixfold)
 
-pub check-promised : (mesh : List ℕ) → Bytes mesh → CheckPromise mesh (checkOf mesh)
-check-promised mesh bytes =
+pub check-promised : (mesh : List ℕ) (r : Report) → Bytes mesh → CheckOutcomeIs mesh r → CheckPromise mesh r
+check-promised mesh r bytes is =
     let both = demand-2 .accepted-exactly mesh in
-    record { outcome = check-outcome mesh; exactly = (λ e. both .0 (bytes, e), λ x. both .1 x .1); figures = demand-2 .figures mesh }
+    subst (CheckPromise mesh) (sym is)
+    (record { outcome = check-outcome mesh; exactly = (λ e. both .0 (bytes, e), λ x. both .1 x .1); figures = demand-2 .figures mesh })
 
 -- ---- build
 
@@ -45,14 +46,15 @@ pub record BuildPromise (job : ℕ) (coordinates : List ℤ) (corners : List ℕ
   pub exactly : (number ≡ 0) ↔ BuildAccepts coordinates corners room
   pub stores : number ≡ 0 → BuiltMesh job coordinates corners out room
 
-pub build-promised : (job : ℕ) (coordinates : List ℤ) (corners : List ℕ) → ArgumentTypes job coordinates corners → (room : ℕ) →
-    BuildPromise job coordinates corners room (buildNumber job coordinates corners room) (buildBytes job coordinates corners room)
-build-promised job coordinates corners types room =
-    record {
+pub build-promised : (job : ℕ) (coordinates : List ℤ) (corners : List ℕ) (room number : ℕ) (out : List ℕ) → ArgumentTypes job coordinates corners → BuildOutcomeIs job coordinates corners room number out →
+    BuildPromise job coordinates corners room number out
+build-promised job coordinates corners room number out types is =
+    subst₂ (BuildPromise job coordinates corners room) (sym (is .number)) (sym (is .bytes))
+    (record {
       outcome = build-outcome job coordinates corners types room;
       exactly = demand-2 .build-accepts job coordinates corners types room;
       stores = demand-2 .build-stores job coordinates corners types room;
-    }
+    })
 
 -- ---- refine
 
@@ -62,6 +64,7 @@ pub record RefinePromise (mesh selection : List ℕ) (room number : ℕ) (out : 
   -- demand 3
   pub least-or-full : (x : StoredMesh mesh) → GoodFor x selection → fullSize ≤ room → LeastOrFullFrom x selection number out room
 
-pub refine-promised : (mesh selection : List ℕ) → Bytes mesh → (room : ℕ) → RefinePromise mesh selection room (refineNumber mesh selection room) (refineBytes mesh selection room)
-refine-promised mesh selection bytes room =
-    record { outcome = refine-outcome mesh selection bytes room; least-or-full = λ x good full-size. demand-3 .least-or-full mesh x selection good room full-size }
+pub refine-promised : (mesh selection : List ℕ) (room number : ℕ) (out : List ℕ) → Bytes mesh → RefineOutcomeIs mesh selection room number out → RefinePromise mesh selection room number out
+refine-promised mesh selection room number out bytes is =
+    subst₂ (RefinePromise mesh selection room) (sym (is .number)) (sym (is .bytes))
+    (record { outcome = refine-outcome mesh selection bytes room; least-or-full = λ x good full-size. demand-3 .least-or-full mesh x selection good room full-size })

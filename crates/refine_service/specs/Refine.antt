@@ -1,4 +1,5 @@
 -- What refine answers, for every stored mesh, every selection and every length of the output buffer.
+use mathlib.Core.Path.{_≡_, sym, _∙_}
 use mathlib.Core.Bool.{cond}
 use mathlib.Core.List.{List, [], _∷_, _++_}
 use Prim.Native.Nat.{ℕ, _+_, _-_}
@@ -67,3 +68,13 @@ refineBytes mesh selection room =
     let bytes = meshBytes (resultOf (closed mesh selection)) in
     let stored = bytes ++ replicate (room - length bytes) 0 in
     cond (eqb (refineNumber mesh selection room) 0) stored (replicate room 0)
+
+-- "Each public function states one outcome for each input: number, counts and all bytes of the output, refused or not."
+pub record RefineOutcomeIs (mesh selection : List ℕ) (room r : ℕ) (out : List ℕ) : Type 0 where
+  pub number : r ≡ refineNumber mesh selection room
+  pub bytes : out ≡ refineBytes mesh selection room
+
+-- "That no second outcome fits is itself proved"
+pub one-refine : (mesh selection : List ℕ) (room r r′ : ℕ) (out out′ : List ℕ) →
+    RefineOutcomeIs mesh selection room r out → RefineOutcomeIs mesh selection room r′ out′ → (r ≡ r′) × (out ≡ out′)
+one-refine mesh selection room r r′ out out′ is is′ = (is .number ∙ sym (is′ .number), is .bytes ∙ sym (is′ .bytes))

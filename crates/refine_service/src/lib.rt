@@ -9,7 +9,7 @@ ghost use lib.ListN.{length};
 ghost use Rattle.stored.specs.Layout.{limits, lastRound, namedIn};
 ghost use Rattle.check_refusals.specs.Tables.{tables};
 ghost use Rattle.check_refusals.specs.Check.{checkNumber};
-ghost use Rattle.refine_service.specs.Refine.{nextRound, refineNumber, refineBytes};
+ghost use Rattle.refine_service.specs.Refine.{nextRound, RefineOutcomeIs};
 ghost use Rattle.refine_service.specs.Order.{selectionNumber, namedNumber};
 ghost use Rattle.refine_service.specs.Storing.{Assembled, Copied, storedNumber, storedBytes, laterNumber, laterBytes};
 
@@ -115,8 +115,7 @@ fn store(mesh: &[u8], h: Header, selection: &[u8], out: &mut [u8]) -> u32
 }
 
 pub fn refine<'a>(mesh: &'a [u8], selection: &'a [u8], out: &mut [u8]) -> u32
-    ensures { λ r. ⌜ r ≡ refineNumber (now (mesh .entry)) (now (selection .entry)) (length (now (out .entry))) ⌝ }
-    ensures { λ _. ⌜ now (out .exit) ≡ refineBytes (now (mesh .entry)) (now (selection .entry)) (length (now (out .entry))) ⌝ }
+    ensures { λ r. ⌜ RefineOutcomeIs (now (mesh .entry)) (now (selection .entry)) (length (now (out .entry))) r (now (out .exit)) ⌝ }
 {
     slices_written::clear(out);
     let found = judged(mesh);

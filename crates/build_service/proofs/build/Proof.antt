@@ -20,7 +20,7 @@ returns c =
     let room = length (now (a .out)) in
     let clear = c .before .before .before .before .clear in
     let whole = sym (c .before .not-whole .ensures) ∙ c .if1 .taken in
-    (sym (build-21 (a .job) coordinates corners room whole), clear .ensures ∙ build-21-bytes (a .job) coordinates corners room whole)
+    record { number = sym (build-21 (a .job) coordinates corners room whole); bytes = clear .ensures ∙ build-21-bytes (a .job) coordinates corners room whole }
 
 returns-2 : tie.Need-returns-2
 returns-2 c =
@@ -31,7 +31,7 @@ returns-2 c =
     let clear = c .before .before .before .before .before .before .before .clear in
     let whole = sym (c .before .before .before .before .not-whole .ensures) ∙ c .before .before .before .if1 .left in
     let counts = sym (counts-alone (a .job) coordinates corners) ∙ sym (ap (λ (most : Limits). wrongCounts most (plainHeader 0 coordinates corners)) (c .before .before .limits-of-version-1 .ensures)) ∙ sym (c .before .wrong-counts .ensures) ∙ c .if2 .taken in
-    (sym (build-3 (a .job) coordinates corners room whole counts), clear .ensures ∙ build-3-bytes (a .job) coordinates corners room whole counts)
+    record { number = sym (build-3 (a .job) coordinates corners room whole counts); bytes = clear .ensures ∙ build-3-bytes (a .job) coordinates corners room whole counts }
 
 store-requires : tie.Need-store-requires
 store-requires c κs =
@@ -53,7 +53,10 @@ returns-3 c =
     let whole = sym (c .before .before .before .before .before .before .before .before .not-whole .ensures) ∙ c .before .before .before .before .before .before .before .if1 .left in
     let counts = sym (counts-alone (a .job) coordinates corners) ∙ sym (ap (λ (most : Limits). wrongCounts most (plainHeader 0 coordinates corners)) (c .before .before .before .before .before .before .limits-of-version-1 .ensures)) ∙ sym (c .before .before .before .before .before .wrong-counts .ensures) ∙ c .before .before .before .before .if2 .left in
     let long = clear-long (clear .last .0) room (clear .ensures) in
-    (c .before .before .store .ensures .0 ∙ ap (laterNumber (plainBytes (a .job) coordinates corners)) long ∙ sym (build-later (a .job) coordinates corners room whole counts), c .before .before .store .ensures .1 ∙ ap (laterBytes (plainBytes (a .job) coordinates corners)) long ∙ build-later-bytes (a .job) coordinates corners room whole counts)
+    record {
+      number = c .before .before .store .ensures .0 ∙ ap (laterNumber (plainBytes (a .job) coordinates corners)) long ∙ sym (build-later (a .job) coordinates corners room whole counts);
+      bytes = c .before .before .store .ensures .1 ∙ ap (laterBytes (plainBytes (a .job) coordinates corners)) long ∙ build-later-bytes (a .job) coordinates corners room whole counts;
+    }
 
 pub build-spec : {M : Type 1} → statement M
 build-spec = tie.close (tie.spec (λ c κs. search needs) (λ c κs. search needs) (λ c. search needs) returns (λ c κs. search needs) (λ c κs. search needs) (λ c. search needs) returns-2 store-requires (λ c. search needs) returns-3)

@@ -24,7 +24,7 @@ returns c =
     let room = length (now (a .out)) in
     let clear = c .before .before .before .before .clear in
     let r = refine-judged mesh selection room (rw (← c .before .judged .ensures) (ne-eqb (c .before .judged .result) 0 (c .if1 .taken))) in
-    (c .before .judged .ensures ∙ r .0, clear .ensures ∙ r .1)
+    record { number = c .before .judged .ensures ∙ r .0; bytes = clear .ensures ∙ r .1 }
 
 returns-2 : tie.Need-returns-2
 unfolding tablesOf
@@ -38,7 +38,7 @@ returns-2 c =
     let header = c .before .before .before .header-of .ensures in
     let found : c .before .selected .result ≡ selectionNumber (tablesOf mesh) selection = c .before .selected .ensures ∙ (λ i. selectionNumber (tables (header i) ((c .before .before .layout-of .ensures ∙ ap layoutOf header) i) mesh mesh) selection) in
     let r = refine-selected mesh selection room none (rw (← found) (ne-eqb (c .before .selected .result) 0 (c .if2 .taken))) in
-    (found ∙ r .0, clear .ensures ∙ r .1)
+    record { number = found ∙ r .0; bytes = clear .ensures ∙ r .1 }
 
 store-requires : tie.Need-store-requires
 unfolding tablesOf
@@ -67,7 +67,10 @@ returns-3 c =
     let found : c .before .before .before .before .before .selected .result ≡ selectionNumber (tablesOf mesh) selection = c .before .before .before .before .before .selected .ensures ∙ (λ i. selectionNumber (tables (header i) ((c .before .before .before .before .before .before .layout-of .ensures ∙ ap layoutOf header) i) mesh mesh) selection) in
     let right = sym found ∙ c .before .before .before .before .if2 .left in
     let long = clear-long (clear .last .0) room (clear .ensures) in
-    (c .before .before .store .ensures .0 ∙ ap (laterNumber mesh selection) long ∙ refine-later mesh selection room none right, c .before .before .store .ensures .1 ∙ ap (laterBytes mesh selection) long ∙ refine-later-bytes mesh selection room none right)
+    record {
+      number = c .before .before .store .ensures .0 ∙ ap (laterNumber mesh selection) long ∙ refine-later mesh selection room none right;
+      bytes = c .before .before .store .ensures .1 ∙ ap (laterBytes mesh selection) long ∙ refine-later-bytes mesh selection room none right;
+    }
 
 pub refine-spec : {M : Type 1} → statement M
 refine-spec =
