@@ -9,6 +9,7 @@ pub mod Faces
 pub mod Cuts
 pub mod Order
 pub mod Exactly
+pub mod HangingFirst
 pub mod Descent
 pub mod Sums
 pub mod Volumes
