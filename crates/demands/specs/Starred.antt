@@ -8,8 +8,9 @@ use lib.IntN.{pos}
 use lib.Dec.{eqb}
 use Rattle.laws.specs.Below.{allBelow}
 use Rattle.piece.specs.declared.Piece.{Piece}
-use Rattle.piece.specs.Shape.{Shape, shapeOf, typeA, typeO, typeM, setP, unsetP, flagFits, validShape}
-use Rattle.piece_cut.specs.Cut.{cutOf}
+use Rattle.piece.specs.Shape.{Shape, Valid, shapeOf, typeP, typeA, typeO, typeM, setP, unsetP, flagFits, validShape}
+use Rattle.piece_cut.specs.Cut.{childShape, cutOf}
+use Rattle.piece_cut.specs.Theorems.{End, unset-P-gives-set-P, set-P-gives-A, others-give-unset-P}
 use Rattle.grid.specs.Places.{pointOf}
 use Rattle.check_refusals.specs.Tables.{Tables, tablesOf, pieceAt, isCut, refinementEnds, sixfoldAt}
 use Rattle.check_refusals.specs.Check.{leaves}
@@ -128,6 +129,10 @@ pub record StarredRows : Type 0 where
   pub A-gives : givesTwo unsetP (withMarks 1 4 0) ≡ true
   pub O-gives : givesTwo unsetP (withMarks 5 5 0) ≡ true
   pub M-gives : givesTwo unsetP (withMarks 1 5 0) ≡ true
+  -- The same of every valid shape and of both children: k is the slot of an end of the refinement edge, where the child has the new vertex.
+  pub every-unset-P-gives : (s : Shape) → Valid s → (k : ℕ) → End s k → unsetP s ≡ true → (typeP (childShape s k) ≡ true) × (childShape s k .flag ≡ 1)
+  pub every-set-P-gives : (s : Shape) → Valid s → (k : ℕ) → End s k → setP s ≡ true → (typeA (childShape s k) ≡ true) × (childShape s k .flag ≡ 0)
+  pub every-A-O-M-gives : (s : Shape) → Valid s → (k : ℕ) → End s k → (typeA s || (typeO s || typeM s)) ≡ true → (typeP (childShape s k) ≡ true) × (childShape s k .flag ≡ 0)
   -- "Empty selection on K: round 1, all else equal."
   pub empty-accepted : refineNumber K (selecting 7 0 0 []) 77 ≡ 0
   pub empty-bytes : refineBytes K (selecting 7 0 0 []) 77 ≡ K-of 1
@@ -189,6 +194,9 @@ starred =
       A-gives = refl;
       O-gives = refl;
       M-gives = refl;
+      every-unset-P-gives = unset-P-gives-set-P;
+      every-set-P-gives = set-P-gives-A;
+      every-A-O-M-gives = others-give-unset-P;
       empty-accepted = refl;
       empty-bytes = refl;
       expired = refl;
