@@ -1,7 +1,7 @@
 -- Demand 3, put together. Assumes nothing.
 use mathlib.Core.Path.{_≡_, sym, ap, subst, _∙_}
 use mathlib.Core.Bool.{Bool, true, false, _||_}
-use mathlib.Core.Logic.{_⊎_, _↔_, inl, inr, ⊎-elim}
+use mathlib.Core.Logic.{_≢_, _⊎_, _↔_, inl, inr, ⊎-elim}
 use mathlib.Core.List.{List, _++_}
 use Prim.Native.Nat.{ℕ, suc, _+_, _-_, _*_, _/_, _≤_, _<_, max}
 use native.Mathlib.Omega.{arith}
@@ -9,7 +9,7 @@ use lib.Dec.{ltb}
 use lib.ListN.{length, replicate}
 use borrow.Author.Tests.{ltb-true, ne-eqb}
 use Rattle.laws.specs.Below.{either}
-use Rattle.stored.specs.Layout.{limits, headerOf, meshBytes}
+use Rattle.stored.specs.Layout.{limits, headerOf, meshBytes, selectionOf}
 use Rattle.check_refusals.specs.Tables as Check
 use Rattle.check_refusals.specs.Tables.{tablesOf, allVertices, allRecords}
 use Rattle.check_refusals.specs.Check.{checkNumber, checkOf}
@@ -17,12 +17,14 @@ use Rattle.check_refusals.specs.Rows.{report-number}
 use Rattle.check_meaning.specs.Exactly.{accepts-exactly}
 use Rattle.refine_pass.specs.Passes.{exceeds}
 use Rattle.refine_service.specs.Refine.{closed, resultOf, refineNumber, refineBytes}
-use Rattle.refine_meaning.specs.Answer.{refused-bytes, accepted-bytes}
+use Rattle.refine_selection.specs.Selected.{anotherJob, anotherRound}
+use Rattle.refine_meaning.specs.Answer.{refused-bytes, accepted-bytes, another-job-refused, another-round-refused}
 use Rattle.cuts_names.specs.Pieces.{Node, generation}
 use Rattle.cuts.specs.Sets.{Cuts}
-use Rattle.demands.specs.Words.{BaseMesh, Fits, fullSize, StoredMesh, SelectedPiece, Closes, Refined, GoodFor, RefinedFrom, LeastOrFullFrom}
+use Rattle.demands.specs.Words.{BaseMesh, Fits, fullSize, StoredMesh, RightSelectionLength, RightSelectionMark, SelectedPiece, Closes, Refined, GoodFor, RefinedFrom, LeastOrFullFrom}
 use Rattle.demands.specs.AcceptedOf.{accepted-of-stored}
 use Rattle.demands.specs.SetOf.{grown-cuts, grown-not-fits}
+use Rattle.demands.specs.Selections.{length-passes, mark-passes, rule13-holds, rule14-holds}
 use Rattle.demands.specs.RefineNumbers.{good-exactly, good-number, good-19-exceeds, refine-accepts-all, used-gets-14}
 use Rattle.demands.specs.StoredFigures.{stored-figures, stored-volume}
 use Rattle.demands.specs.FromStored as From
@@ -151,6 +153,21 @@ least-multiple s x selected bytes room r children kids =
     let k = (max (checkOf s .deepest) children + 2) / 3 in
     let reach = r .no-deeper k (λ m l. let d = before .deepest-most m l in omega (arith, d)) (λ m c. let d = kids m c in omega (arith, d)) n leaf in
     omega (arith, is, reach)
+
+-- "another job", "another round": a whole selection of another job gets 13, whatever else it says, and one of this job and another round 14.
+module _ (s : List ℕ) (x : StoredMesh s) (selection : List ℕ) (room : ℕ) (whole : RightSelectionLength selection) (marked : RightSelectionMark selection) where
+  pub gets-13 : selectionOf selection .job ≢ x .job → refineNumber s selection room ≡ 13
+  unfolding tablesOf
+  gets-13 other =
+      another-job-refused s selection room (accepts-exactly s .1 (From.accepted s x)) (length-passes selection .1 whole) (mark-passes selection .1 marked)
+      (⊎-elim (λ t. t) (λ f. absurd (other (rule13-holds (tablesOf s) selection .0 f ∙ From.stored-job s x))) (either (anotherJob (headerOf s) (selectionOf selection))))
+
+  pub gets-14 : selectionOf selection .job ≡ x .job → selectionOf selection .round ≢ x .round → refineNumber s selection room ≡ 14
+  unfolding tablesOf
+  gets-14 same other =
+      another-round-refused s selection room (accepts-exactly s .1 (From.accepted s x)) (length-passes selection .1 whole) (mark-passes selection .1 marked)
+      (rule13-holds (tablesOf s) selection .1 (same ∙ sym (From.stored-job s x)))
+      (⊎-elim (λ t. t) (λ f. absurd (other (rule14-holds (tablesOf s) selection .0 f ∙ From.stored-round s x))) (either (anotherRound (headerOf s) (selectionOf selection))))
 
 -- A selection that was used gets 14 from every later round.
 pub used-refused : (s selection : List ℕ) (room : ℕ) → refineNumber s selection room ≡ 0 → (later : List ℕ) → checkOf later .number ≡ 0 → headerOf later .job ≡ headerOf s .job → headerOf s .round < headerOf later .round →

@@ -23,6 +23,7 @@ use Rattle.laws.specs.Lists.{Bytes}
 use Rattle.stored.specs.Layout.{limits, meshLength, headerOf, Mesh, meshBytes}
 use Rattle.check_refusals.specs.declared.Report.{Report}
 use Rattle.check_refusals.specs.Check.{checkNumber, checkOf}
+use Rattle.check_meaning.specs.HangingFirst.{HangingEdge, hanging-first}
 use Rattle.build_service.specs.Build.{plainMesh, buildNumber, buildBytes}
 use Rattle.build_meaning.specs.Written.{Given}
 use Rattle.build_meaning.specs.Output as Build
@@ -45,7 +46,9 @@ pub record CheckOutcome (s : List ℕ) (r : Report) : Type 0 where
   pub either :
       ((r .number ≡ 0) × (length s ≡ meshLength (headerOf s .vertices) (headerOf s .records)))
       ⊎ ((1 ≤ r .number) × (r .number ≤ 10) × (r .leaves ≡ 0) × (r .deepest ≡ 0) × (r .sixfold ≡ 0))
-  -- With any answer but 10 the record and the code of the hanging edge are 0.
+  -- "with 10 it also returns the first leaf edge found hanging, by record and then edge code; with any other answer both are 0"
+  pub hanging : r .number ≡ 10 → HangingEdge (tablesOf s) (r .«record») (r .edge)
+  pub hanging-first : r .number ≡ 10 → (n e : ℕ) → HangingEdge (tablesOf s) n e → (r .«record» < n) ⊎ ((r .«record» ≡ n) × (r .edge ≤ e))
   pub hanging-record : r .number ≢ 10 → r .«record» ≡ 0
   pub hanging-edge : r .number ≢ 10 → r .edge ≡ 0
 
@@ -112,6 +115,8 @@ check-outcome s =
           (λ e. inl (e, accepted-length s e))
           (λ n. let f = refused-figures s n in inr (omega (arith, n), check-number s, f .0, f .1, f .2))
           (zero-or-not (checkOf s .number));
+      hanging = λ e. hanging-first s e .0;
+      hanging-first = λ e. hanging-first s e .1;
       hanging-record = λ n. no-hanging-edge s n .0;
       hanging-edge = λ n. no-hanging-edge s n .1;
     }

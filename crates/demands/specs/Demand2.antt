@@ -19,13 +19,13 @@ use Rattle.build_meaning.specs.Output as Build
 use Rattle.refine_service.specs.Refine.{closed, resultOf}
 use Rattle.refine_meaning.specs.Answer as Refine
 use Rattle.cuts_names.specs.Pieces.{Node}
-use Rattle.demands.specs.Words.{Numbering, StoredMesh, Figures, pointAt, plainBase, ArgumentTypes, BuildAccepts, BuiltMesh, GoodFor}
+use Rattle.demands.specs.Words.{StoredMesh, SameBase, SameNumbering, Figures, pointAt, plainBase, ArgumentTypes, BuildAccepts, BuiltMesh, GoodFor}
 use Rattle.demands.specs.Services.{Services, ours}
 use Rattle.demands.specs.StoredOf.{stored-of-accepted}
 use Rattle.demands.specs.AcceptedOf.{accepted-of-stored}
 use Rattle.demands.specs.StoredBytes.{stored-bytes}
 use Rattle.demands.specs.StoredFigures.{stored-figures, stored-one-base, stored-one-set}
-use Rattle.demands.specs.OneSet.{SameBase}
+use Rattle.demands.specs.OneNumbering.{stored-one-job, stored-one-round, stored-one-numbering}
 use Rattle.demands.specs.GivenTypes.{given-by-types, stands-as-listed}
 use Rattle.demands.specs.BuildNumbers.{build-exactly}
 use Rattle.demands.specs.BuildStores.{built}
@@ -80,11 +80,20 @@ demand-2 =
 
 -- ---- a byte string stores one job, one round, one base, one set and one numbering only
 
+pub one-job : (s : List ℕ) (x x′ : StoredMesh s) → x .job ≡ x′ .job
+one-job = stored-one-job
+
+pub one-round : (s : List ℕ) (x x′ : StoredMesh s) → x .round ≡ x′ .round
+one-round = stored-one-round
+
 pub one-base : (s : List ℕ) (x x′ : StoredMesh s) → SameBase (x .base) (x′ .base)
 one-base = stored-one-base
 
 pub one-set : (s : List ℕ) (x x′ : StoredMesh s) (n : Node) → x .cuts .has n ≡ x′ .cuts .has n
 one-set = stored-one-set
+
+pub one-numbering : (s : List ℕ) (x x′ : StoredMesh s) → SameNumbering (x .base) (x .stores .numbers) (x′ .stores .numbers)
+one-numbering = stored-one-numbering
 
 -- ---- build
 

@@ -5,12 +5,12 @@
 --
 -- The words are in `Words`: `GoodSelection`, `Closes` (the sets that close), `Refined` and `LeastOrFull` (what is handed back, clause by clause).
 use mathlib.Core.Path.{_≡_}
-use mathlib.Core.Logic.{_↔_}
+use mathlib.Core.Logic.{_↔_, _≢_}
 use mathlib.Core.List.{List}
 use Prim.Native.Nat.{ℕ, suc, _+_, _*_, _/_, _≤_, _<_, max}
-use Rattle.stored.specs.Layout.{headerOf}
+use Rattle.stored.specs.Layout.{headerOf, selectionOf}
 use Rattle.cuts_names.specs.Pieces.{Node, generation}
-use Rattle.demands.specs.Words.{fullSize, StoredMesh, SelectedPiece, GoodFor, RefinedFrom, LeastOrFullFrom}
+use Rattle.demands.specs.Words.{fullSize, StoredMesh, RightSelectionLength, RightSelectionMark, SelectedPiece, GoodFor, RefinedFrom, LeastOrFullFrom}
 use Rattle.demands.specs.Services.{Services, ours}
 use Rattle.demands.specs.ClosedProof as Proof
 
@@ -41,6 +41,18 @@ pub no-deeper-than : (s : List ℕ) (x : StoredMesh s) (selection bytes : List �
     (children : ℕ) → ((n : Node) → SelectedPiece (x .stores .numbers) selection n → suc (generation n) ≤ children) →
     ours .check (r .mesh) .deepest ≤ 3 * ((max (ours .check s .deepest) children + 2) / 3)
 no-deeper-than s x selection = Proof.least-multiple s x (SelectedPiece (x .stores .numbers) selection)
+
+-- "a choice of pieces belongs to one job and one round": a whole selection of another job gets 13 from a stored mesh, and one of another round 14, with any
+-- buffer; so what is accepted is of this job and this round (`accepted-good`).
+pub another-job : (s : List ℕ) (x : StoredMesh s) (selection : List ℕ) (room : ℕ) → RightSelectionLength selection → RightSelectionMark selection → selectionOf selection .job ≢ x .job → ours .refine s selection room ≡ 13
+another-job = Proof.gets-13
+
+pub another-round : (s : List ℕ) (x : StoredMesh s) (selection : List ℕ) (room : ℕ) → RightSelectionLength selection → RightSelectionMark selection → selectionOf selection .job ≡ x .job → selectionOf selection .round ≢ x .round →
+    ours .refine s selection room ≡ 14
+another-round = Proof.gets-14
+
+pub accepted-good : (s : List ℕ) (x : StoredMesh s) (selection : List ℕ) (room : ℕ) → ours .refine s selection room ≡ 0 → GoodFor x selection
+accepted-good = Proof.accepted-good
 
 -- "dead as soon as a refinement is accepted": a selection that was used gets 14 from every accepted mesh of that job with a higher round, with any
 -- buffer. The result's round is one higher; no round is higher than 65,535, where 18 stops every further one, so it never comes round again.

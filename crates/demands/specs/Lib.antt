@@ -36,6 +36,7 @@ pub mod FromStored
 pub mod Inside
 pub mod StoredFigures
 pub mod StoredBytes
+pub mod OneNumbering
 pub mod Result
 pub mod ClosedProof
 pub mod Outcomes

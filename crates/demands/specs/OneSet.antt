@@ -12,18 +12,10 @@ use Rattle.cuts_names.specs.Pieces.{Node}
 use Rattle.cuts.specs.Sets.{Cuts}
 use Rattle.cuts.specs.Tables.{Lawful}
 use Rattle.cuts.specs.LinkSets.{exactly-one}
-use Rattle.demands.specs.Words.{BaseMesh, Numbering, VerticesNumbered, RecordsNumbered}
+use Rattle.demands.specs.Words.{BaseMesh, Numbering, VerticesNumbered, RecordsNumbered, SameBase}
 use Rattle.demands.specs.Link.{link}
 use Rattle.demands.specs.Holds.{Holds}
 use Rattle.demands.specs.HoldsGrown.{represents, grown}
-
--- The same vertices at the same places, and the same pieces: shape by shape and corner by corner.
-pub record SameBase (b b′ : BaseMesh) : Type 0 where
-  pub vertices : b .vertices ≡ b′ .vertices
-  pub pieces : b .pieces ≡ b′ .pieces
-  pub placeAt : (v : ℕ) → v < b .vertices → b .placeAt v ≡ b′ .placeAt v
-  pub shapeAt : (r : ℕ) → r < b .pieces → b .shapeAt r ≡ b′ .shapeAt r
-  pub cornerAt : (r : ℕ) → r < b .pieces → (k : ℕ) → k < 4 → b .cornerAt r k ≡ b′ .cornerAt r k
 
 -- Base vertices with the same name have the same number.
 base-once : (u v : ℕ) → Names.base u ≡ Names.base v → u ≡ v

@@ -14,10 +14,9 @@ use Rattle.cuts_names.specs.Pieces.{Node}
 use Rattle.cuts.specs.Count.{LeafList}
 use Rattle.cuts.specs.LinkNodes.{node-root}
 use Rattle.demands.specs.Link.{link}
-use Rattle.demands.specs.Words.{StoredMesh, Figures, sixfoldAt, sumOf}
+use Rattle.demands.specs.Words.{StoredMesh, Figures, sixfoldAt, sumOf, SameBase}
 use Rattle.demands.specs.FiguresOf.{figures-held, record-sixfold}
 use Rattle.demands.specs.OneSet as OneSet
-use Rattle.demands.specs.OneSet.{SameBase}
 use Rattle.demands.specs.AcceptedOf.{accepted-of-stored}
 use Rattle.demands.specs.FromStored as From
 

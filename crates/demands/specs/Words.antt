@@ -271,6 +271,31 @@ pub record StoredMesh (s : List ℕ) : Type 0 where
   pub right : RightSet base cuts
   pub stores : Stores s job round base cuts
 
+-- ---- what two such sets, stored by the same bytes, have the same
+
+-- The same vertices at the same places, and the same pieces: shape by shape and corner by corner.
+pub record SameBase (b b′ : BaseMesh) : Type 0 where
+  pub vertices : b .vertices ≡ b′ .vertices
+  pub pieces : b .pieces ≡ b′ .pieces
+  pub placeAt : (v : ℕ) → v < b .vertices → b .placeAt v ≡ b′ .placeAt v
+  pub shapeAt : (r : ℕ) → r < b .pieces → b .shapeAt r ≡ b′ .shapeAt r
+  pub cornerAt : (r : ℕ) → r < b .pieces → (k : ℕ) → k < 4 → b .cornerAt r k ≡ b′ .cornerAt r k
+
+-- Two numberings of a set over the base mesh b say the same of every number that they give.
+pub record SameNumbering (b : BaseMesh) (N N′ : Numbering) : Type 0 where
+  -- how many there are
+  pub vertices : N .vertices ≡ N′ .vertices
+  pub records : N .records ≡ N′ .records
+  -- of a vertex: its name, its place, and where it is made its parents' numbers
+  pub nameAt : (v : ℕ) → v < N .vertices → N .nameAt v ≡ N′ .nameAt v
+  pub placeAt : (v : ℕ) → v < N .vertices → N .placeAt v ≡ N′ .placeAt v
+  pub pAt : (v : ℕ) → b .vertices ≤ v → v < N .vertices → N .pAt v ≡ N′ .pAt v
+  pub qAt : (v : ℕ) → b .vertices ≤ v → v < N .vertices → N .qAt v ≡ N′ .qAt v
+  -- of a record: its node, the vertex number in each slot, the number of its first child
+  pub nodeAt : (r : ℕ) → r < N .records → N .nodeAt r ≡ N′ .nodeAt r
+  pub cornerAt : (r : ℕ) → r < N .records → (k : ℕ) → k < 4 → N .cornerAt r k ≡ N′ .cornerAt r k
+  pub firstAt : (r : ℕ) → r < N .records → N .firstAt r ≡ N′ .firstAt r
+
 -- ---- "the leaves, depth and volume"
 
 -- Where a vertex stands, by its name: a base vertex at its place, a made one at half the sum of its parents' places.

@@ -1,22 +1,25 @@
 -- What the user asked of each C function's answer, for every input: the demands with no hypothesis left. The words are those of `demands/specs/Words` and of
 -- the demands' pages.
-use mathlib.Core.Path.{_≡_, sym, subst, subst₂}
+use mathlib.Core.Path.{_≡_, sym, _∙_, subst, subst₂}
 use mathlib.Core.Logic.{_↔_, _≢_}
-use mathlib.Core.List.{List}
-use Prim.Native.Nat.{ℕ, _≤_, _<_}
-use lib.ListN.{length, getD}
+use mathlib.Core.List.{List, _++_}
+use Prim.Native.Nat.{ℕ, _-_, _≤_, _<_}
+use lib.ListN.{length, getD, replicate}
 use lib.IntN.{ℤ, pos}
 use Rattle.laws.specs.Lists.{Bytes}
 use Rattle.stored.specs.Layout.{selectionOf}
 use Rattle.check_refusals.specs.declared.Report.{Report}
 use Rattle.check_refusals.specs.Tables.{tablesOf}
 use Rattle.check_refusals.specs.Check.{CheckOutcomeIs}
+use Rattle.check_refusals.specs.Rows.{report-number}
 use Rattle.build_service.specs.Build.{BuildOutcomeIs}
 use Rattle.refine_service.specs.Refine.{RefineOutcomeIs}
 use Rattle.demands.specs.Words.{I16, fullSize, StoredMesh, Figures, ArgumentTypes, BuildAccepts, BuiltMesh, RightSelectionLength, RightSelectionMark, GoodFor, LeastOrFullFrom}
 use Rattle.demands.specs.Demand1.{CheckOutcome, BuildOutcome, RefineOutcome, check-outcome, build-outcome, refine-outcome}
-use Rattle.demands.specs.Demand2.{demand-2}
-use Rattle.demands.specs.Demand3.{demand-3}
+use Rattle.demands.specs.Demand2.{ClosedFits, closedBytes, demand-2}
+use Rattle.demands.specs.Demand3.{demand-3, another-job, another-round, accepted-good}
+use Rattle.face_to_face.specs.Words.{FaceToFace}
+use Rattle.face_to_face.specs.FaceToFace.{Meets, face-to-face, built-meets, refined-meets}
 
 -- ---- check
 
@@ -26,12 +29,19 @@ pub record CheckPromise (mesh : List ℕ) (r : Report) : Type 0 where
   -- demand 2
   pub exactly : (r .number ≡ 0) ↔ StoredMesh mesh
   pub figures : (x : StoredMesh mesh) → Figures (x .base) (x .cuts) (r .leaves) (r .deepest) (r .sixfold)
+  -- request thirteen
+  pub meets : r .number ≡ 0 → FaceToFace (tablesOf mesh)
 
 pub check-promised : (mesh : List ℕ) (r : Report) → Bytes mesh → CheckOutcomeIs mesh r → CheckPromise mesh r
 check-promised mesh r bytes is =
     let both = demand-2 .accepted-exactly mesh in
     subst (CheckPromise mesh) (sym is)
-    (record { outcome = check-outcome mesh; exactly = (λ e. both .0 (bytes, e), λ x. both .1 x .1); figures = demand-2 .figures mesh })
+    (record {
+      outcome = check-outcome mesh;
+      exactly = (λ e. both .0 (bytes, e), λ x. both .1 x .1);
+      figures = demand-2 .figures mesh;
+      meets = λ e. face-to-face mesh (sym (report-number mesh) ∙ e);
+    })
 
 -- ---- build
 
@@ -45,6 +55,8 @@ pub record BuildPromise (job : ℕ) (coordinates : List ℤ) (corners : List ℕ
   -- demand 2
   pub exactly : (number ≡ 0) ↔ BuildAccepts coordinates corners room
   pub stores : number ≡ 0 → BuiltMesh job coordinates corners out room
+  -- request thirteen
+  pub meets : number ≡ 0 → Meets out room
 
 pub build-promised : (job : ℕ) (coordinates : List ℤ) (corners : List ℕ) (room number : ℕ) (out : List ℕ) → ArgumentTypes job coordinates corners → BuildOutcomeIs job coordinates corners room number out →
     BuildPromise job coordinates corners room number out
@@ -54,6 +66,7 @@ build-promised job coordinates corners room number out types is =
       outcome = build-outcome job coordinates corners types room;
       exactly = demand-2 .build-accepts job coordinates corners types room;
       stores = demand-2 .build-stores job coordinates corners types room;
+      meets = built-meets job coordinates corners types room;
     })
 
 -- ---- refine
@@ -61,10 +74,29 @@ build-promised job coordinates corners room number out types is =
 pub record RefinePromise (mesh selection : List ℕ) (room number : ℕ) (out : List ℕ) : Type 0 where
   -- demand 1, and what is accepted, whatever the buffer's length
   pub outcome : RefineOutcome mesh selection room number out
+  -- "a choice of pieces belongs to one job and one round": a whole selection of another job gets 13, one of another round 14, and what is accepted earns none
+  -- of refusals 11 to 18
+  pub another-job : (x : StoredMesh mesh) → RightSelectionLength selection → RightSelectionMark selection → selectionOf selection .job ≢ x .job → number ≡ 13
+  pub another-round : (x : StoredMesh mesh) → RightSelectionLength selection → RightSelectionMark selection → selectionOf selection .job ≡ x .job → selectionOf selection .round ≢ x .round → number ≡ 14
+  pub good : number ≡ 0 → (x : StoredMesh mesh) → GoodFor x selection
+  -- demand 2: from a stored mesh and a good selection, accepted exactly where the closed result fits, and that result, to the byte
+  pub exactly : (x : StoredMesh mesh) → GoodFor x selection → (number ≡ 0) ↔ ClosedFits mesh selection room
+  pub closing : (x : StoredMesh mesh) → GoodFor x selection → number ≡ 0 → out ≡ closedBytes mesh selection ++ replicate (room - length (closedBytes mesh selection)) 0
   -- demand 3
   pub least-or-full : (x : StoredMesh mesh) → GoodFor x selection → fullSize ≤ room → LeastOrFullFrom x selection number out room
+  -- request thirteen
+  pub meets : number ≡ 0 → Meets out room
 
 pub refine-promised : (mesh selection : List ℕ) (room number : ℕ) (out : List ℕ) → Bytes mesh → RefineOutcomeIs mesh selection room number out → RefinePromise mesh selection room number out
 refine-promised mesh selection room number out bytes is =
     subst₂ (RefinePromise mesh selection room) (sym (is .number)) (sym (is .bytes))
-    (record { outcome = refine-outcome mesh selection bytes room; least-or-full = λ x good full-size. demand-3 .least-or-full mesh x selection good room full-size })
+    (record {
+      outcome = refine-outcome mesh selection bytes room;
+      another-job = λ x. another-job mesh x selection room;
+      another-round = λ x. another-round mesh x selection room;
+      good = λ e x. accepted-good mesh x selection room e;
+      exactly = λ x good. demand-2 .refine-accepts mesh x selection good room;
+      closing = λ x good. demand-2 .closing mesh x selection good room;
+      least-or-full = λ x good full-size. demand-3 .least-or-full mesh x selection good room full-size;
+      meets = refined-meets mesh selection bytes room;
+    })
