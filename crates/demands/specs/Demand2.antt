@@ -18,14 +18,19 @@ use Rattle.build_service.specs.Build.{plainBytes}
 use Rattle.build_meaning.specs.Output as Build
 use Rattle.refine_service.specs.Refine.{closed, resultOf}
 use Rattle.refine_meaning.specs.Answer as Refine
-use Rattle.cuts_names.specs.Pieces.{Node}
-use Rattle.demands.specs.Words.{StoredMesh, SameBase, SameNumbering, Figures, pointAt, plainBase, ArgumentTypes, BuildAccepts, BuiltMesh, GoodFor}
+use Rattle.piece_edges.specs.Edges.{lowSlot, highSlot}
+use Rattle.piece.specs.Shape.{lastGeneration}
+use Rattle.grid.specs.Places.{pointOf}
+use Rattle.grid.specs.Corners.{Midpoint}
+use Rattle.cuts_names.specs.Pieces.{Node, generation, pieceAt, makes}
+use Rattle.demands.specs.Words.{BaseMesh, named, pointAt, ProperlyMarked, StoredMesh, SameBase, SameNumbering, placeOf, Figures, plainBase, ArgumentTypes, BuildAccepts, BuiltMesh, GoodFor}
 use Rattle.demands.specs.Services.{Services, ours}
 use Rattle.demands.specs.StoredOf.{stored-of-accepted}
 use Rattle.demands.specs.AcceptedOf.{accepted-of-stored}
 use Rattle.demands.specs.StoredBytes.{stored-bytes}
 use Rattle.demands.specs.StoredFigures.{stored-figures, stored-one-base, stored-one-set}
 use Rattle.demands.specs.OneNumbering.{stored-one-job, stored-one-round, stored-one-numbering}
+use Rattle.demands.specs.Exact.{exact-halfway}
 use Rattle.demands.specs.GivenTypes.{given-by-types, stands-as-listed}
 use Rattle.demands.specs.BuildNumbers.{build-exactly}
 use Rattle.demands.specs.BuildStores.{built}
@@ -94,6 +99,15 @@ one-set = stored-one-set
 
 pub one-numbering : (s : List ℕ) (x x′ : StoredMesh s) → SameNumbering (x .base) (x .stores .numbers) (x′ .stores .numbers)
 one-numbering = stored-one-numbering
+
+-- ---- the grid
+
+-- "halving then never meets an odd sum": of every piece of generation below 15 that cutting a properly marked base can give, the vertex that cutting it makes
+-- stands exactly halfway between the ends of its refinement edge. `placeOf` halves and rounds down; twice the half is the sum, in each coordinate.
+pub never-odd : (b : BaseMesh) → ProperlyMarked b → (n : Node) → n .root < b .pieces → generation n < lastGeneration →
+    let p = pieceAt (named b) n in
+    Midpoint (pointOf (placeOf b (makes p))) (pointOf (placeOf b (p .corner (lowSlot (p .shape .edge))))) (pointOf (placeOf b (p .corner (highSlot (p .shape .edge)))))
+never-odd = exact-halfway
 
 -- ---- build
 
