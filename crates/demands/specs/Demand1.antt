@@ -30,7 +30,7 @@ use Rattle.build_meaning.specs.Output as Build
 use Rattle.refine_service.specs.Refine.{closed, resultOf, refineNumber, refineBytes}
 use Rattle.refine_meaning.specs.Answer as Refine
 use Rattle.list_lines.specs.Lines.{refusedLine, lineRoom}
-use Rattle.list_meaning.specs.Listing.{linesOf, meshLines}
+use Rattle.list_service.specs.Listing.{linesOf, meshLines}
 use Rattle.list_meaning.specs.Longest.{no-line-longer}
 use Rattle.demands.specs.Words.{StoredMesh, ArgumentTypes, RefinedFrom}
 use Rattle.demands.specs.GivenTypes.{given-by-types}

@@ -36,7 +36,7 @@ use Rattle.refine_meaning.specs.Answer as Refine
 use Rattle.refine_meaning.specs.Answer.{job-kept, round-next, base-vertices-kept, base-records-kept}
 use Rattle.list_text.specs.Text.{lineFeed, figures}
 use Rattle.list_lines.specs.Lines.{refusedLine, countFigures, checkFigures, headingLine, cornerFigures, edgeFigures, leafLine}
-use Rattle.list_meaning.specs.Listing.{leafLines, meshLines, judgedLines, linesOf}
+use Rattle.list_service.specs.Listing.{leafLines, meshLines, judgedLines, linesOf}
 
 -- A number is 0 or it is not.
 pub zero-or-not : (n : ℕ) → (n ≡ 0) ⊎ (n ≢ 0)

@@ -1,84 +1,26 @@
--- No line of a listing is longer than the line buffer, whatever the bytes: so each line is found whole in the buffer that it is set in.
-use mathlib.Core.Path.{_≡_, sym, _∙_}
-use mathlib.Core.Logic.{⊎-elim}
+-- No line of a listing is longer than the line buffer, and no listing longer than a line for each record that there may be and the heading,
+-- whatever the bytes: so a buffer of that size holds every listing.
+use mathlib.Core.Path.{_≡_, refl, sym}
+use mathlib.Core.Logic.{_≢_, ⊎-elim}
 use mathlib.Core.Bool.{Bool, true, false, cond}
 use mathlib.Core.List.{List, [], _∷_, _++_}
-use Prim.Native.Nat.{ℕ, zero, suc, _+_, _^_, _≤_, _<_}
-use Prim.Native.String.{String}
+use Prim.Native.Nat.{ℕ, zero, suc, _-_, _^_, _≤_}
 use native.Mathlib.Omega.{arith}
 use lib.Dec.{ltb, eqb}
-use lib.ListN.{length, take, getD, length-append}
-use borrow.Author.Tests.{eqb-true}
-use Rattle.laws.specs.Below.{either, greatest-at-most, sum-at-most, count-at-most}
+use lib.ListN.{length, take, getD, replicate, length-append}
+use lib.Seq.{take-at}
+use borrow.Author.Tests.{ltb-true, ltb-false, le-ltb, eqb-true, eqb-false}
+use Rattle.laws.specs.Below.{either}
 use Rattle.laws.specs.Lists.{Bytes}
-use Rattle.piece.specs.declared.Piece.{Piece}
-use Rattle.piece.specs.Shape.{lastGeneration}
-use Rattle.piece.specs.Ends.{cornerAt, lowerEnd, higherEnd, endsOf}
-use Rattle.stored.specs.declared.Header.{Header}
-use Rattle.stored.specs.Layout.{limits, meshLength, headerOf, layoutOf, recordIn}
-use Rattle.stored.specs.Fitting.{HeaderFits, RecordFits, header-fits, record-fits}
-use Rattle.check_refusals.specs.declared.Report.{Report}
-use Rattle.check_refusals.specs.Tables.{tablesOf, allRecords, uncut, isLeaf, pieceAt}
-use Rattle.check_refusals.specs.Check.{checkNumber, accepted, reportOf, checkOf, leaves, leafGeneration, deepest, leafSixfold, sixfold}
+use Rattle.stored.specs.Layout.{limits}
+use Rattle.check_refusals.specs.Tables.{tablesOf, allRecords, isLeaf, pieceAt}
+use Rattle.check_refusals.specs.Check.{checkOf}
 use Rattle.check_refusals.specs.Rows.{check-small, report-number}
-use Rattle.check_figures.specs.Bounds.{most, leaf-at-most}
-use Rattle.check_meaning.specs.Accepted.{Accepted}
-use Rattle.check_meaning.specs.Exactly.{accepts-exactly}
-use Rattle.list_text.specs.Text.{word, lineFeed, decimal, figures}
-use Rattle.list_text.specs.Line.{line, put}
-use Rattle.list_text.specs.Decimal.{decimal-length}
-use Rattle.list_text.specs.Laws.{put-whole}
-use Rattle.list_lines.specs.Lines.{lineRoom, refusedLine, countFigures, checkFigures, headingLine, cornerFigures, edgeFigures, leafLine}
-use Rattle.list_meaning.specs.Listing.{leafLines, meshLines, judgedLines, linesOf}
-
--- ---- how long figures are
-
--- Each of the figures has at most as many digits as the list has it, and one more; and how long they are then.
-abbrev Digits : List (String × ℕ) → List ℕ → Type 0
-Digits [] ks = Unit {0}
-Digits (figure ∷ rest) [] = ⊥
-Digits (figure ∷ rest) (k ∷ ks) = (figure .1 < 10 ^ suc k) × Digits rest ks
-
-abbrev room : List (String × ℕ) → List ℕ → ℕ
-room [] ks = 0
-room (figure ∷ rest) [] = 0
-room (figure ∷ rest) (k ∷ ks) = length (word (figure .0)) + suc k + room rest ks
-
-figures-long : (figs : List (String × ℕ)) (ks : List ℕ) → Digits figs ks → length (figures figs) ≤ room figs ks
-unfolding figures
-figures-long [] ks h = omega arith
-figures-long (figure ∷ rest) [] h = absurd h
-figures-long ((name, n) ∷ rest) (k ∷ ks) h =
-    rw (length-append (word name) (decimal n ++ figures rest), length-append (decimal n) (figures rest))
-    (omega (arith, decimal-length k n (h .0), figures-long rest ks (h .1)))
-
-line-long : (figs : List (String × ℕ)) (ks : List ℕ) → Digits figs ks → room figs ks < lineRoom → length (figures figs ++ lineFeed) ≤ lineRoom
-unfolding lineFeed
-line-long figs ks h l = rw (length-append (figures figs) lineFeed) (omega (arith, figures-long figs ks h, l))
-
--- ---- the lines
-
-refused-long : (n : ℕ) → n < 10 ^ 20 → length (refusedLine n) ≤ lineRoom
-unfolding refusedLine word
-refused-long n h = line-long (("refused ", n) ∷ []) (19 ∷ []) (h, tt) (omega arith)
-
--- The heading of a mesh within the limits.
-heading-long : (h : Header) (r : Report) → HeaderFits h → h .records ≤ limits .records → r .leaves ≤ h .records → r .deepest ≤ lastGeneration → r .sixfold < 10 ^ 20 → length (headingLine h r) ≤ lineRoom
-unfolding headingLine countFigures checkFigures word
-heading-long h r fits records leaves deepest volume =
-    line-long (countFigures h ++ checkFigures r) (9 ∷ 4 ∷ 4 ∷ 3 ∷ 3 ∷ 1 ∷ 19 ∷ [])
-    (omega (arith, fits .job), (omega (arith, fits .round), (omega (arith, fits .vertices), (omega (arith, records), (omega (arith, leaves, records), (omega (arith, deepest), (volume, tt)))))))
-    (omega arith)
-
--- A leaf's line, of numbers that four bytes hold.
-leaf-long : (n : ℕ) (p : Piece) → n < 10 ^ 10 → ((k : ℕ) → cornerAt p k < 10 ^ 10) → p .generation < 10 ^ 3 → length (leafLine n p) ≤ lineRoom
-unfolding leafLine cornerFigures edgeFigures endsOf word
-leaf-long n p small corners generation =
-    line-long (cornerFigures n p ++ edgeFigures p) (9 ∷ 9 ∷ 9 ∷ 9 ∷ 9 ∷ 9 ∷ 9 ∷ 2 ∷ [])
-    (small, (corners 0, (corners 1, (corners 2, (corners 3, (corners (lowerEnd p (p .edge)), (corners (higherEnd p (p .edge)), (generation, tt))))))))
-    (omega arith)
-
--- ---- all lines
+use Rattle.check_service.specs.Verdict.{accepted-bounded}
+use Rattle.list_lines.specs.Lines.{lineRoom, refusedLine, headingLine, leafLine}
+use Rattle.list_service.specs.Listing.{largestMesh, leafLines, meshLines, judgedLines, linesOf, textOf, listingOf, listedNumber, listNumber, listLength, listBytes, largestListing}
+use Rattle.list_service.specs.Lengths.{refused-long, leaf-fits, record-of, heading-fits}
+use Rattle.list_service.specs.Putting.{leavesText, leaves-long, judged-refused, judged-listed, longer-text, longer-number, judged-text, judged-number}
 
 -- Lines that are each as long as the buffer at most.
 abbrev Fit : List (List ℕ) → Type 0
@@ -94,84 +36,78 @@ fit-at [] f k = omega arith
 fit-at (l ∷ rest) f zero = f .0
 fit-at (l ∷ rest) f (suc k) = fit-at rest (f .1) k
 
-module _ (s : List ℕ) (b : Bytes s) where
-  piece-fits : (n : ℕ) → RecordFits (tablesOf s .recordAt n)
+module _ (s : List ℕ) where
+  few-records : checkOf s .number ≡ 0 → allRecords (tablesOf s) ≤ limits .records
   unfolding tablesOf
-  piece-fits n = record-fits (layoutOf (headerOf s)) s s b b n
+  few-records e = accepted-bounded s e .records
 
-  corner-small : (n k : ℕ) → cornerAt (pieceAt (tablesOf s) n) k < 10 ^ 10
-  corner-small n k = ⊎-elim (λ e. omega (arith, e)) (λ l. omega (arith, l)) (piece-fits n .corners k)
+  number-small : checkOf s .number ≤ 10
+  number-small = omega (arith, report-number s, check-small s)
 
-  leaf-fits : (n : ℕ) → n < 10 ^ 10 → length (leafLine n (pieceAt (tablesOf s) n)) ≤ lineRoom
-  leaf-fits n l = leaf-long n (pieceAt (tablesOf s) n) l (corner-small n) (omega (arith, piece-fits n .generation))
-
+module _ (s : List ℕ) (b : Bytes s) where
   leaves-fit : (n : ℕ) → n ≤ 10 ^ 10 → Fit (leafLines (tablesOf s) n)
   unfolding leafLines
   leaves-fit zero l = tt
   leaves-fit (suc n) l = fit-append (leafLines (tablesOf s) n) (cond (isLeaf (tablesOf s) n) (leafLine n (pieceAt (tablesOf s) n) ∷ []) []) (leaves-fit n (omega arith)) (here (isLeaf (tablesOf s) n))
     where
       here : (leaf : Bool) → Fit (cond leaf (leafLine n (pieceAt (tablesOf s) n) ∷ []) [])
-      here true = (leaf-fits n (omega arith), tt)
+      here true = (leaf-fits n (tablesOf s .recordAt n) (omega arith) (record-of s b n), tt)
       here false = tt
 
-  header-of : HeaderFits (tablesOf s .header)
-  unfolding tablesOf
-  header-of = header-fits s b
-
-  leaf-volume : (n : ℕ) → leafSixfold (tablesOf s .vertexAt) (tablesOf s .recordAt n) ≤ most
-  unfolding tablesOf
-  leaf-volume n = leaf-at-most (layoutOf (headerOf s)) s s (recordIn (layoutOf (headerOf s)) s s n)
-
-  -- An accepted mesh's figures.
-  module _ (a : Accepted s) where
-    few : leaves (tablesOf s) ≤ allRecords (tablesOf s)
-    unfolding leaves
-    few = count-at-most (isLeaf (tablesOf s)) (allRecords (tablesOf s))
-
-    leaf-generation : (n : ℕ) → n < allRecords (tablesOf s) → leafGeneration (tablesOf s .recordAt n) ≤ lastGeneration
-    unfolding leafGeneration
-    leaf-generation n l = go (uncut (tablesOf s .recordAt n))
-      where
-        go : (c : Bool) → cond c (pieceAt (tablesOf s) n .generation) 0 ≤ lastGeneration
-        go true = a .mesh .cuts .generations n l
-        go false = omega arith
-
-    not-deep : deepest (tablesOf s) ≤ lastGeneration
-    unfolding deepest
-    not-deep = greatest-at-most (λ n. leafGeneration (tablesOf s .recordAt n)) (allRecords (tablesOf s)) lastGeneration leaf-generation
-
-    volume : sixfold (tablesOf s) < 10 ^ 20
-    unfolding sixfold
-    volume =
-        omega
-        (arith, sum-at-most (λ n. leafSixfold (tablesOf s .vertexAt) (tablesOf s .recordAt n)) (allRecords (tablesOf s)) most (λ n l. leaf-volume n), a .limits .records)
-
-  accepted-fits : checkNumber s ≡ 0 → Fit (meshLines (tablesOf s) (checkOf s))
-  unfolding meshLines checkOf reportOf
-  accepted-fits e =
-      let a = accepts-exactly s .0 e in
-      rw e (
-        heading-long (tablesOf s .header) (accepted (tablesOf s)) header-of (a .limits .records) (few a) (not-deep a) (volume a),
-        leaves-fit (allRecords (tablesOf s)) (omega (arith, a .limits .records)),
-      )
-
   judged-fit : Fit (judgedLines (tablesOf s) (checkOf s))
-  unfolding judgedLines
+  unfolding judgedLines meshLines
   judged-fit =
       ⊎-elim
-      (λ t. rw t (accepted-fits (sym (report-number s) ∙ eqb-true (checkOf s .number) 0 t)))
-      (λ f. rw f (refused-long (checkOf s .number) (omega (arith, report-number s, check-small s)), tt))
+      (λ t. let good = eqb-true (checkOf s .number) 0 t in rw t (heading-fits s b (checkOf s) refl good, leaves-fit (allRecords (tablesOf s)) (omega (arith, few-records s good))))
+      (λ f. rw f (refused-long (checkOf s .number) (omega (arith, number-small s)), tt))
       (either (eqb (checkOf s .number) 0))
 
--- "Each line is set in a 128-byte line buffer": no line is longer, whatever the bytes.
-pub no-line-longer : (s : List ℕ) → Bytes s → (k : ℕ) → length (getD (linesOf s) k []) ≤ lineRoom
-unfolding linesOf
-no-line-longer s b k =
-    ⊎-elim
-    (λ t. rw t (fit-at (refusedLine 1 ∷ []) (refused-long 1 (omega arith), tt) k))
-    (λ f. rw f (fit-at (judgedLines (tablesOf s) (checkOf s)) (judged-fit s b) k))
-    (either (ltb (meshLength (limits .vertices) (limits .records)) (length s)))
+  -- "Each line is set in a 128-byte line buffer": no line is longer, whatever the bytes.
+  pub no-line-longer : (k : ℕ) → length (getD (linesOf s) k []) ≤ lineRoom
+  unfolding linesOf
+  no-line-longer k =
+      ⊎-elim
+      (λ t. rw t (fit-at (refusedLine 1 ∷ []) (refused-long 1 (omega arith), tt) k))
+      (λ f. rw f (fit-at (judgedLines (tablesOf s) (checkOf s)) judged-fit k))
+      (either (ltb largestMesh (length s)))
 
--- So a line that is set in such a buffer is found there whole.
-pub line-whole : (s : List ℕ) → Bytes s → (k : ℕ) (buffer : List ℕ) → length buffer ≡ lineRoom → let l = put (getD (linesOf s) k []) (line buffer 0) in take (l .at) (l .bytes) ≡ getD (linesOf s) k []
-line-whole s b k buffer e = put-whole buffer (getD (linesOf s) k []) (omega (arith, no-line-longer s b k, e))
+  judged-at-most : length (textOf (judgedLines (tablesOf s) (checkOf s))) ≤ largestListing
+  judged-at-most =
+      ⊎-elim
+      (λ t. let good = eqb-true (checkOf s .number) 0 t in
+      rw (judged-listed (tablesOf s) (checkOf s) good, length-append (headingLine (tablesOf s .header) (checkOf s)) (leavesText (tablesOf s .recordAt) (allRecords (tablesOf s))))
+      (omega (arith, heading-fits s b (checkOf s) refl good, leaves-long (tablesOf s .recordAt) (record-of s b) (allRecords (tablesOf s)) (omega (arith, few-records s good)), few-records s good)))
+      (λ f. rw (judged-refused (tablesOf s) (checkOf s) (eqb-false (checkOf s .number) 0 f)) (omega (arith, refused-long (checkOf s .number) (omega (arith, number-small s)))))
+      (either (eqb (checkOf s .number) 0))
+
+  -- No listing is longer than 393,344 bytes.
+  pub listing-at-most : length (listingOf s) ≤ largestListing
+  listing-at-most =
+      ⊎-elim
+      (λ t. rw (longer-text s (ltb-true largestMesh (length s) t)) (omega (arith, refused-long 1 (omega arith))))
+      (λ f. rw (judged-text s (ltb-false largestMesh (length s) f)) judged-at-most)
+      (either (ltb largestMesh (length s)))
+
+  -- So a buffer of that size never gets 20: the number is the mesh's own,
+  module _ (room : ℕ) (enough : largestListing ≤ room) where
+    pub own-number : listNumber s room ≡ listedNumber s
+    unfolding listNumber
+    own-number = rw (le-ltb room (length (listingOf s)) (omega (arith, listing-at-most))) (go (listedNumber s) (eqb (listedNumber s) 0) (eqb-true (listedNumber s) 0))
+      where
+        go : (n : ℕ) (none : Bool) → (none ≡ true → n ≡ 0) → cond none 0 n ≡ n
+        go n true is = sym (is refl)
+        go n false is = refl
+
+    pub never-20 : listNumber s room ≢ 20
+    never-20 e =
+        ⊎-elim
+        (λ t. omega (arith, e, own-number, longer-number s (ltb-true largestMesh (length s) t)))
+        (λ f. omega (arith, e, own-number, judged-number s (ltb-false largestMesh (length s) f), number-small s))
+        (either (ltb largestMesh (length s)))
+
+    -- and the text that it is told the length of is the whole listing.
+    pub whole-listing : take (listLength s room) (listBytes s room) ≡ listingOf s
+    unfolding listLength listBytes
+    whole-listing =
+        rw (le-ltb room (length (listingOf s)) (omega (arith, listing-at-most)))
+        (take-at (listingOf s) (replicate (room - length (listingOf s)) 0) (length (listingOf s)) refl)

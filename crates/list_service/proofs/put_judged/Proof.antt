@@ -1,0 +1,49 @@
+-- `list_service::put_judged`: the refusal, or the heading and the leaves.
+-- Assumes nothing.
+use borrow.Author.Needs.{needs}
+use mathlib.Core.Path.{_≡_, sym, _∙_}
+use mathlib.Core.List.{_++_}
+use native.Mathlib.Omega.{arith}
+use denote.Ref.{now}
+use Rattle.laws.specs.Lists.{Bytes}
+use Rattle.stored.specs.Layout.{layoutOf, recordIn}
+use Rattle.check_refusals.specs.Tables.{tablesOf}
+use Rattle.list_lines.specs.Lines.{headingLine}
+use Rattle.list_service.specs.Listing.{textOf, judgedLines}
+use Rattle.list_service.specs.Lengths.{heading-fits}
+use Rattle.list_service.specs.Putting.{put-then, leavesText, judged-refused, judged-listed}
+use Rattle.list_service.proofs.put_judged.Statement.{statement}
+use Rattle.list_service.proofs.put_judged.Tie as tie
+
+returns : tie.Need-returns
+returns c =
+    let a = c .before .before .before .before .before .before .before .before .args in
+    rw (judged-refused (tablesOf (now (a .mesh))) (a .report) (c .before .before .before .before .if1 .taken)) (c .before .before .put-refused .ensures)
+
+put-heading-requires : tie.Need-put-heading-requires
+unfolding tablesOf
+put-heading-requires c κs =
+    let a = c .before .before .before .before .before .before .args in
+    let bytes : Bytes (now (a .mesh)) = record { byte = λ k. omega (arith, c .before .before .before .before .shared-slice-known .given k) } in
+    rw (c .before .header-of .ensures) (heading-fits (now (a .mesh)) bytes (a .report) (c .before .before .before .before .before .before .pre) (c .before .before .if1 .left))
+
+put-leaves-requires : tie.Need-put-leaves-requires
+unfolding tablesOf
+put-leaves-requires c κs =
+    let a = c .before .before .before .before .before .before .before .before .before .before .args in
+    let bytes : Bytes (now (a .mesh)) = record { byte = λ k. omega (arith, c .before .before .before .before .before .before .before .before .shared-slice-known .given k) } in
+    omega (arith, c .before .before .before .put-heading .ensures .place, rw (← c .before .before .before .before .before .header-of .ensures) at (heading-fits (now (a .mesh)) bytes (a .report) (c .before .before .before .before .before .before .before .before .before .before .pre) (c .before .before .before .before .before .before .if1 .left)))
+
+returns-2 : tie.Need-returns-2
+unfolding tablesOf
+returns-2 c =
+    let a = c .before .before .before .before .before .before .before .before .before .before .before .before .before .args in
+    let mesh = now (a .mesh) in
+    let h = c .before .before .before .before .before .before .before .before .header-of .result in
+    let header = c .before .before .before .before .before .before .before .before .header-of .ensures in
+    let text : headingLine h (a .report) ++ leavesText (recordIn (layoutOf h) mesh mesh) (h .records) ≡ textOf (judgedLines (tablesOf mesh) (a .report)) =
+    (λ i. headingLine (header i) (a .report) ++ leavesText (recordIn (layoutOf (header i)) mesh mesh) (header i .records)) ∙ sym (judged-listed (tablesOf mesh) (a .report) (c .before .before .before .before .before .before .before .before .before .if1 .left)) in
+    rw (← text) (put-then (c .before .before .before .before .before .before .put-heading .ensures) (c .before .before .put-leaves .ensures))
+
+pub put-judged-spec : {M : Type 1} → statement M
+put-judged-spec = tie.close (tie.spec (λ c κs. search needs) (λ c. search needs) returns (λ c κs. search needs) put-heading-requires put-leaves-requires (λ c. search needs) returns-2)

@@ -1,0 +1,4 @@
+-- What list answers, and the laws by which the code gets there.
+pub mod Listing
+pub mod Lengths
+pub mod Putting
