@@ -132,12 +132,12 @@ pub fn list(mesh: &[u8], out: &mut [u8]) -> Listed
 {
     slices_written::clear(out);
     let whole = put_listing(mesh, out);
-    if whole.length <= out.len() as u64 {
-        return whole;
+    if (out.len() as u64) < whole.length {
+        slices_written::clear(out);
+        return Listed {
+            number: too_short(whole.number),
+            length: 0,
+        };
     }
-    slices_written::clear(out);
-    Listed {
-        number: too_short(whole.number),
-        length: 0,
-    }
+    whole
 }

@@ -1,9 +1,11 @@
 // The services as C functions: each is one call of a service, and nothing is decided here.
 use check_refusals::Report;
+use list_service::Listed;
 ghost use lib.ListN.{length};
 ghost use Rattle.check_refusals.specs.Check.{CheckOutcomeIs};
 ghost use Rattle.build_service.specs.Build.{BuildOutcomeIs};
 ghost use Rattle.refine_service.specs.Refine.{RefineOutcomeIs};
+ghost use Rattle.list_service.specs.Listing.{ListOutcomeIs};
 
 #[no_mangle]
 pub extern "C" fn tmb_check(mesh: &[u8]) -> Report
@@ -24,4 +26,11 @@ pub extern "C" fn tmb_refine<'a>(mesh: &'a [u8], selection: &'a [u8], out: &mut 
     ensures { λ r. ⌜ RefineOutcomeIs (now (mesh .entry)) (now (selection .entry)) (length (now (out .entry))) r (now (out .exit)) ⌝ }
 {
     refine_service::refine(mesh, selection, out)
+}
+
+#[no_mangle]
+pub extern "C" fn tmb_list(mesh: &[u8], out: &mut [u8]) -> Listed
+    ensures { λ r. ⌜ ListOutcomeIs (now (mesh .entry)) (length (now (out .entry))) r (now (out .exit)) ⌝ }
+{
+    list_service::list(mesh, out)
 }
