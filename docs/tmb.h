@@ -100,6 +100,33 @@ uint32_t tmb_build(uint32_t job, const int16_t *coordinates, size_t coordinate_c
 uint32_t tmb_refine(const uint8_t *mesh, size_t mesh_length, const uint8_t *selection,
                     size_t selection_length, uint8_t *out, size_t room);
 
+/*
+ * What list gives back.
+ *
+ * number is 0 where the whole listing of an accepted mesh is written; else
+ *
+ *    1 to 10, of the mesh: what check gives for it, in the words above; input longer than the
+ *       largest mesh, 62,484 bytes, is refused with 1 here
+ *   20  the output buffer is shorter than the listing
+ */
+struct tmb_listed {
+    uint64_t number;
+    uint64_t length; /* how many bytes of text the output buffer begins with; 0 where it is shorter
+                        than the listing */
+};
+
+/*
+ * List writes what a stored mesh, the mesh_length bytes at mesh, which are only read, is listed with:
+ * for an accepted mesh one heading line, then each leaf in rising record number; for a refused one
+ * the one line `refused ` and the number. Every line ends with a line feed. Every byte string gets an
+ * answer. A buffer of 393,344 bytes holds any listing and never gets 20.
+ *
+ * All room bytes at out are written: the listing, also of a refused mesh, and zeros past it; where
+ * the buffer is shorter than the listing it is zero throughout. It does not overlap the mesh. No
+ * pointer is NULL, also where its length is 0.
+ */
+struct tmb_listed tmb_list(const uint8_t *mesh, size_t mesh_length, uint8_t *out, size_t room);
+
 #ifdef __cplusplus
 }
 #endif

@@ -3,11 +3,10 @@
 use crate::explained;
 use crate::files::{self, shown};
 use crate::help;
-use crate::listing;
 use crate::plain::{self, Plain, LONGEST_TEXT};
 use crate::refusals::{words, wrong, Ending};
 use crate::station;
-use crate::stored::{self, Counts, LARGEST_MESH, LONGEST_MESH, LONGEST_SELECTION};
+use crate::stored::{self, Counts, LARGEST_LISTING, LARGEST_MESH, LONGEST_MESH, LONGEST_SELECTION};
 use std::ffi::{OsStr, OsString};
 use std::str::FromStr;
 
@@ -80,7 +79,13 @@ fn refine(mesh: &OsStr, selection: &OsStr, out: &OsStr) -> Result<(), Ending> {
 }
 
 fn list(mesh: &OsStr) -> Result<(), Ending> {
-    print(listing::lines(&files::read(mesh, LONGEST_MESH)?)?)
+    let mesh = files::read(mesh, LONGEST_MESH)?;
+    let mut text = vec![0; LARGEST_LISTING];
+    let listed = station::list(&mesh, &mut text);
+    let number = listed.number as u32;
+    judged(number, || explained::mesh(number, &mesh))?;
+    text.truncate(listed.length as usize);
+    print(text)
 }
 
 /// A number other than 0 is a refusal.

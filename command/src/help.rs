@@ -93,7 +93,8 @@ Shows a heading with job, round, all vertices, all records and check's three
 figures, then each leaf: its number, its four corners, its refinement edge's
 lower and higher vertex, its generation.
 
-The lines are those of the proved program tmb-list, which stands beside tmb.
+The lines are those of the proved list. The program tmb-list, which is installed
+beside tmb, writes the same for a mesh on its standard input.
 ",
     },
     Page {

@@ -1,12 +1,10 @@
 //! The station's command: build, check, select, refine and list on files. The services decide, by the
-//! C functions of the static library and the listing program; here files are read and written and
-//! numbers are put into words.
+//! C functions of the static library; here files are read and written and numbers are put into words.
 
 pub mod commands;
 pub mod explained;
 pub mod files;
 pub mod help;
-pub mod listing;
 pub mod plain;
 pub mod refusals;
 pub mod station;

@@ -12,6 +12,14 @@ pub struct Report {
     pub edge: u64,
 }
 
+/// `struct tmb_listed` of docs/tmb.h: what list gives back.
+#[repr(C)]
+#[derive(Clone, Copy, Debug, PartialEq, Eq)]
+pub struct Listed {
+    pub number: u64,
+    pub length: u64,
+}
+
 extern "C" {
     fn tmb_check(mesh: *const u8, length: usize) -> Report;
     fn tmb_build(
@@ -31,6 +39,7 @@ extern "C" {
         out: *mut u8,
         room: usize,
     ) -> u32;
+    fn tmb_list(mesh: *const u8, mesh_length: usize, out: *mut u8, room: usize) -> Listed;
 }
 
 /// The proved check of a stored mesh.
@@ -71,4 +80,12 @@ pub fn refine(mesh: &[u8], selection: &[u8], out: &mut [u8]) -> u32 {
             out.len(),
         )
     }
+}
+
+/// The proved list: writes the listing of a stored mesh. The number, 0 where an accepted mesh is listed
+/// whole, and the length of the text.
+pub fn list(mesh: &[u8], out: &mut [u8]) -> Listed {
+    // SAFETY: the pointers and the lengths are those of slices; the first is only read, the second is
+    // written and does not overlap it.
+    unsafe { tmb_list(mesh.as_ptr(), mesh.len(), out.as_mut_ptr(), out.len()) }
 }

@@ -3,6 +3,8 @@
 
 /// "The largest mesh is 62,484 bytes."
 pub const LARGEST_MESH: usize = 62_484;
+/// No listing is longer: 3,072 lines and a heading, of 128 bytes each.
+pub const LARGEST_LISTING: usize = 128 * 3_073;
 /// No header's counts account for more bytes: 65,535 vertices and 65,535 records.
 pub const LONGEST_MESH: usize = 20 + 27 * 65_535;
 /// No selection's count accounts for more bytes: 65,535 numbers.

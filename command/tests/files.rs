@@ -23,7 +23,7 @@ const LONG_MESH: &str = "longer than any mesh";
 
 #[test]
 fn inputs_that_cannot_be_read() {
-    let desk = Desk::with_list("no-input", &list_program());
+    let desk = Desk::new("no-input");
     desk.write("k", &k());
     fs::create_dir(desk.folder.join("folder")).unwrap();
     for (name, words) in [
@@ -53,7 +53,7 @@ fn inputs_that_cannot_be_read() {
 /// Without end: a device, a pipe that is fed on and on, standard input; and a very long file.
 #[test]
 fn inputs_without_end() {
-    let desk = Desk::with_list("endless", &list_program());
+    let desk = Desk::new("endless");
     desk.write("k", &k());
     File::create(desk.folder.join("long"))
         .unwrap()

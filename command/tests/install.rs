@@ -80,7 +80,8 @@ fn asked_for(folder: &Path) -> Option<String> {
     Some(run(asked.env("PKG_CONFIG_PATH", folder)).0)
 }
 
-const ROUND: &str = "build 0\nrefine 0\ncheck 0 leaves 2 deepest 1 sixfold 262144\nrefine 14\n";
+const ROUND: &str = "build 0\nrefine 0\ncheck 0 leaves 2 deepest 1 sixfold 262144\n\
+                     list 0 length 119\nrefine 14\n";
 
 /// A program compiled with the installation gives the answers of "A piece worked by hand".
 #[track_caller]
@@ -157,7 +158,7 @@ fn an_installation() {
     the_manual(&prefix);
 }
 
-/// The command, with its listing program beside it.
+/// The command, and the listing program beside it.
 fn a_round(prefix: &Path) {
     let mut desk = Desk::new("installed");
     desk.program = prefix.join("bin/tmb");
@@ -176,7 +177,11 @@ fn a_round(prefix: &Path) {
     );
     says(&desk.run(&["refine", "k", "choice", "k"]), &cut);
     says(&desk.run(&["check", "k"]), &cut);
-    gives(&desk.run(&["list", "k"]), &second::list(&k1()));
+    let listing = second::list(&k1());
+    gives(&desk.run(&["list", "k"]), &listing);
+    desk.program = prefix.join("bin/tmb-list");
+    gives(&desk.run_with_input::<&str>(&[], &k1()), &listing);
+    desk.program = prefix.join("bin/tmb");
     refuses(
         &desk.run(&["refine", "k", "choice", "k"]),
         14,

@@ -9,7 +9,7 @@ use std::process::{Command, Output, Stdio};
 
 #[test]
 fn standard_output_that_cannot_be_written() {
-    let desk = Desk::with_list("no-standard-output", &list_program());
+    let desk = Desk::new("no-standard-output");
     desk.write("k", &k());
     desk.write("choice", &chosen(&k(), &[0]));
     let closed = || {

@@ -22,7 +22,7 @@ fn mesh_refused(desk: &Desk, mesh: &[u8], number: u32, why: &str) {
 
 #[test]
 fn of_a_stored_mesh() {
-    let desk = Desk::with_list("mesh-refused", &list_program());
+    let desk = Desk::new("mesh-refused");
     let refused = |mesh: &[u8], number, why| mesh_refused(&desk, mesh, number, why);
     refused(b"", 1, "the mesh has 0 bytes");
     refused(&k()[..19], 1, "the mesh has 19 bytes");
@@ -343,7 +343,7 @@ fn of_a_long_plain_mesh() {
 /// listing 1.
 #[test]
 fn of_a_mesh_longer_than_the_largest() {
-    let desk = Desk::with_list("longer-than-largest", &list_program());
+    let desk = Desk::new("longer-than-largest");
     let mut mesh = poked(&k(), 13, &7_000u16.to_le_bytes());
     mesh.resize(20 + 70_000 + 17, 0);
     desk.write("mesh", &mesh);

@@ -16,7 +16,7 @@ const K1_LISTING: &str = "job 7 round 1 vertices 5 records 3 leaves 2 deepest 1 
 
 #[test]
 fn the_worked_piece() {
-    let desk = Desk::with_list("worked", &list_program());
+    let desk = Desk::new("worked");
     let plain = sample("k.txt");
     let build = [
         OsStr::new("build"),
@@ -48,7 +48,7 @@ fn the_worked_piece() {
 
 #[test]
 fn the_cube() {
-    let desk = Desk::with_list("cube", &list_program());
+    let desk = Desk::new("cube");
     desk.write("cube", &cube());
     desk.run(&["select", "cube", "choice", "3"]);
     says(
@@ -100,7 +100,7 @@ fn an_empty_selection() {
 /// `-` is standard input or output; a result on standard output stands there alone.
 #[test]
 fn standard_input_and_output() {
-    let desk = Desk::with_list("standard", &list_program());
+    let desk = Desk::new("standard");
     desk.write("k", &k());
     gives(
         &desk.run_with_input(&["build", "7", "-", "-"], K_TEXT.as_bytes()),
@@ -136,7 +136,7 @@ fn standard_input_and_output() {
 
 #[test]
 fn names_that_are_no_text() {
-    let desk = Desk::with_list("names", &list_program());
+    let desk = Desk::new("names");
     let name = |bytes: &'static [u8]| OsStr::from_bytes(bytes);
     let word = OsStr::new;
     let (mesh, choice, missing) = (

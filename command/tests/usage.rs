@@ -78,7 +78,7 @@ fn help() {
         (
             "list",
             "usage: tmb list MESH\n",
-            "the proved program tmb-list, which stands beside tmb",
+            "The lines are those of the proved list.",
         ),
         ("help", "usage: tmb help [COMMAND]\n", "Shows the commands"),
     ] {

@@ -13,7 +13,7 @@ pub mod refine;
 
 pub use build::{build, build_vec};
 pub use check::{check, Report};
-pub use list::list;
+pub use list::{list, list_into, Listed};
 pub use mesh::{LARGEST_MESH, MOST_RECORDS, MOST_VERTICES};
 pub use refine::{refine, refine_vec, selection};
 

@@ -4,11 +4,42 @@ use crate::check::check;
 use crate::mesh::{Mesh, LARGEST_MESH};
 use crate::piece::ends;
 
-/// "Refused: one line, `refused ` and the number; input longer than the largest mesh is refused
-/// with 1 here. Every line ends with a line feed."
+/// What `list_into` gives back: the number, and how long the text is that the buffer holds.
+#[derive(Clone, Copy, Debug, PartialEq, Eq)]
+pub struct Listed {
+    pub number: u64,
+    pub length: u64,
+}
+
+/// The lines of a stored mesh.
 pub fn list(mesh: &[u8]) -> Vec<u8> {
+    listing(mesh).1
+}
+
+/// The same into a buffer, which is zero past the text. 20: the buffer is shorter than the text; then,
+/// whatever the number, no byte of the text is left in it.
+pub fn list_into(mesh: &[u8], out: &mut [u8]) -> Listed {
+    let (number, text) = listing(mesh);
+    out.fill(0);
+    if text.len() > out.len() {
+        return Listed {
+            number: if number == 0 { 20 } else { number },
+            length: 0,
+        };
+    }
+    out[..text.len()].copy_from_slice(&text);
+    Listed {
+        number,
+        length: text.len() as u64,
+    }
+}
+
+/// "Refused: one line, `refused ` and the number; input longer than the largest mesh is refused
+/// with 1 here. Every line ends with a line feed." The number, and the text.
+fn listing(mesh: &[u8]) -> (u64, Vec<u8>) {
+    let refused = |number: u64| (number, format!("refused {number}\n").into_bytes());
     if mesh.len() > LARGEST_MESH {
-        return b"refused 1\n".to_vec();
+        return refused(1);
     }
     let report = check(mesh);
     match Mesh::read(mesh) {
@@ -33,8 +64,8 @@ pub fn list(mesh: &[u8]) -> Vec<u8> {
                     "{number} {zero} {one} {two} {three} edge {lower} {higher} gen {generation}\n"
                 )
             }));
-            lines.into_bytes()
+            (0, lines.into_bytes())
         }
-        _ => format!("refused {}\n", report.number).into_bytes(),
+        _ => refused(report.number),
     }
 }

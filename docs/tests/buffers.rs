@@ -3,7 +3,7 @@
 
 mod common;
 use common::*;
-use second::{build, check, list, refine, selection};
+use second::{build, check, list, list_into, refine, selection, Listed};
 
 #[test]
 fn every_length_of_buffer() {
@@ -58,6 +58,32 @@ fn after_every_refusal_the_buffer_is_zero() {
     assert_eq!(refine(&k(), &choose(&k(), &[0]), &mut out), 0);
     assert_eq!(out[..121], refined(&k(), &[0]));
     assert!(out[121..].iter().all(|&byte| byte == 0));
+}
+
+/// The listing's text and zeros past it, also of a refused mesh; zeros throughout where there is no room.
+#[test]
+fn every_length_of_buffer_for_the_listing() {
+    let listed = |number, length| Listed { number, length };
+    let cut = refined(&k(), &[0]);
+    for length in 0..300 {
+        for filled in [0x00, 0x55, 0xFF] {
+            for (mesh, text, number, short) in [
+                (&cut[..], list(&cut), 0, 20),
+                (&cut[..120], b"refused 1\n".to_vec(), 1, 1),
+            ] {
+                let mut out = vec![filled; length];
+                let given = list_into(mesh, &mut out);
+                let mut wanted = vec![0; length];
+                if length < text.len() {
+                    assert_eq!(given, listed(short, 0));
+                } else {
+                    assert_eq!(given, listed(number, text.len() as u64));
+                    wanted[..text.len()].copy_from_slice(&text);
+                }
+                assert_eq!(out, wanted);
+            }
+        }
+    }
 }
 
 #[test]

@@ -1,10 +1,11 @@
 /*
- * Calls tmb_check, tmb_build and tmb_refine as docs/tmb.h declares them and compares the reports,
- * the numbers and the bytes; prints ok if all are right.
+ * Calls tmb_check, tmb_build, tmb_refine and tmb_list as docs/tmb.h declares them and compares the
+ * reports, the numbers, the lengths and the bytes; prints ok if all are right.
  */
 #include "tmb.h"
 
 #include <stdio.h>
+#include <string.h>
 
 /* K as built: four vertices, one piece, job 7; 77 bytes. */
 static const uint8_t k[77] = {
@@ -67,6 +68,11 @@ static const uint8_t cut[121] = {
 /* Record 0, selected for job 7 and round 0. */
 static const uint8_t selected[15] = {'T', 'M', 'S', 1, 0, 7, 0, 0, 0, 0, 0, 1, 0, 0, 0};
 
+/* K cut, listed: the whole output of document 01's example; 119 bytes. */
+static const char listed[] = "job 7 round 1 vertices 5 records 3 leaves 2 deepest 1 sixfold 262144\n"
+                             "1 0 1 2 4 edge 0 2 gen 1\n"
+                             "2 4 1 2 3 edge 1 3 gen 1\n";
+
 /* K: its places, and its one piece. */
 static const int16_t places[12] = {0, 0, 0, 64, 0, 0, 64, 64, 0, 64, 64, 64};
 static const uint16_t piece[4] = {0, 1, 2, 3};
@@ -87,7 +93,7 @@ static void expect(const char *name, struct tmb_report given, struct tmb_report 
 }
 
 /* The longest output buffer, and a byte on both sides of it. */
-static uint8_t buffer[1 + sizeof cut + 1];
+static uint8_t buffer[1 + 393344 + 1];
 
 static void fill(void)
 {
@@ -141,6 +147,32 @@ static void expect_refined(const char *name, const uint8_t *mesh, size_t mesh_le
     expect_written(name, room, given, number, wanted);
 }
 
+/* Lists a mesh into so many bytes; text is what the buffer is to begin with, and zeros follow. */
+static void expect_listed(const char *name, const uint8_t *mesh, size_t mesh_length, size_t room,
+                          uint64_t number, const char *text)
+{
+    struct tmb_listed given;
+    size_t length = strlen(text), i;
+
+    fill();
+    given = tmb_list(mesh, mesh_length, buffer + 1, room);
+    if (given.number != number || given.length != length) {
+        printf("%s: number %lu length %lu\n", name, (unsigned long)given.number,
+               (unsigned long)given.length);
+        failures++;
+    }
+    for (i = 0; i < room; i++) {
+        if (buffer[1 + i] != (i < length ? (uint8_t)text[i] : 0)) {
+            printf("%s: byte %lu is %u\n", name, (unsigned long)i, (unsigned)buffer[1 + i]);
+            failures++;
+        }
+    }
+    if (buffer[0] != 170 || buffer[1 + room] != 170) {
+        printf("%s: written beyond the output buffer\n", name);
+        failures++;
+    }
+}
+
 int main(void)
 {
     struct tmb_report accepted = {0, 1, 0, 262144, 0, 0};
@@ -174,6 +206,14 @@ int main(void)
     expect_refined("the selection again", cut, sizeof cut, sizeof selected, 121, 14, NULL);
     expect_refined("no selection", k, sizeof k, 0, 121, 11, NULL);
     expect_refined("no mesh", k, 0, sizeof selected, 121, 1, NULL);
+
+    expect_listed("K cut listed into its length", cut, sizeof cut, strlen(listed), 0, listed);
+    expect_listed("K cut listed into a byte less", cut, sizeof cut, strlen(listed) - 1, 20, "");
+    expect_listed("K cut listed into none", cut, sizeof cut, 0, 20, "");
+    expect_listed("K cut listed into more", cut, sizeof cut, 393344, 0, listed);
+    expect_listed("K refused into its line", changed, sizeof changed, 10, 6, "refused 6\n");
+    expect_listed("K refused into a byte less", changed, sizeof changed, 9, 6, "");
+    expect_listed("no mesh into more", k, 0, 121, 1, "refused 1\n");
 
     if (failures == 0)
         puts("ok");

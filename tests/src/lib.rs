@@ -7,7 +7,7 @@ pub mod plot;
 pub mod random;
 pub mod renumber;
 
-use second::Report;
+use second::{Listed, Report};
 pub use tmb::station::{build as tmb_build, refine as tmb_refine};
 
 /// The proved check of a stored mesh, its report as the second program's.
@@ -20,5 +20,14 @@ pub fn tmb_check(mesh: &[u8]) -> Report {
         sixfold: report.sixfold,
         record: report.record,
         edge: report.edge,
+    }
+}
+
+/// The proved listing of a stored mesh, its answer as the second program's.
+pub fn tmb_list(mesh: &[u8], out: &mut [u8]) -> Listed {
+    let listed = tmb::station::list(mesh, out);
+    Listed {
+        number: listed.number,
+        length: listed.length,
     }
 }

@@ -1,6 +1,8 @@
-//! The proved program `list`, run as a process: stored inputs with their stored outputs, many inputs
-//! compared with the second program's listing byte for byte, and what the program reads and writes when.
-//! COMPARED_SEED in the environment gives another seed, LIST_PROGRAM another program.
+//! The proved listing. Through `tmb_list`, compared with the second program's on many inputs: number,
+//! length and every byte of the output buffer. As the program `list`, run as a process: stored inputs with
+//! their stored outputs, many inputs compared with the second program's listing byte for byte, and what the
+//! program reads and writes when. COMPARED_SEED in the environment gives another seed, LIST_PROGRAM another
+//! program.
 
 use compared::damage::{damaged, KINDS};
 use compared::meshes::{
@@ -9,9 +11,11 @@ use compared::meshes::{
 };
 use compared::random::Random;
 use compared::renumber::renumbered;
-use compared::{tmb_build, tmb_check, tmb_refine};
+use compared::{tmb_build, tmb_check, tmb_list, tmb_refine};
 use second::mesh::Mesh;
-use second::{list, selection, Report, LARGEST_MESH, MOST_RECORDS, MOST_VERTICES};
+use second::{
+    list, list_into, selection, Listed, Report, LARGEST_MESH, MOST_RECORDS, MOST_VERTICES,
+};
 use std::collections::BTreeSet;
 use std::fs::{self, File, OpenOptions};
 use std::io::{ErrorKind, Read, Seek, Write};
@@ -25,10 +29,17 @@ use std::sync::atomic::{AtomicUsize, Ordering};
 use std::thread;
 use std::time::{Duration, Instant};
 
-/// The fewest inputs, the fewest that are listed, and the fewest of each refusal 1 to 10.
-const FEWEST: u64 = 1_500;
-const FEWEST_LISTED: u64 = 400;
-const FEWEST_OF_EACH: u64 = 15;
+/// The fewest inputs, the fewest that are listed, and the fewest of each number that the listing gives: of
+/// the program, and of the function.
+const FEWEST: [u64; 2] = [1_500, 20_000];
+const FEWEST_LISTED: [u64; 2] = [400, 5_000];
+const FEWEST_OF_EACH: [u64; 2] = [15, 100];
+
+/// Bytes on both sides of the output buffer.
+const GUARD: usize = 64;
+
+/// No listing is longer: "3,072 records" and a heading, each "in a 128-byte line buffer".
+const LARGEST_LISTING: usize = 393_344;
 
 /// "Each line is set in a 128-byte line buffer".
 const LINE: usize = 128;
@@ -241,12 +252,27 @@ fn the_largest_mesh_and_one_byte_too_many() {
     }
 }
 
+/// What lists.
+#[derive(Clone, Copy, PartialEq)]
+enum Lister {
+    Program,
+    Function,
+}
+
 /// What was compared.
-#[derive(Default)]
 struct Tally {
+    lister: Lister,
+    /// Numbers for the output buffers, and bytes of any kind to fill them with.
+    random: Random,
+    junk: Vec<u8>,
     inputs: u64,
-    /// Inputs by the number that the listing gives; 0 where it lists.
-    numbers: [u64; 11],
+    /// Inputs by the number that the listing gives, 0 where it lists, and by 20 where an output buffer is
+    /// not long enough.
+    numbers: [u64; 21],
+    /// Calls of the function by output buffer: 0, one less than the text, the text, full-size, longer.
+    rooms: [u64; 5],
+    /// Calls given 1 to 10 with an output buffer shorter than the line: 20 comes last.
+    before_20: u64,
     /// Inputs longer than the largest mesh, and those of them that check alone gives another number.
     longer: [u64; 2],
     /// Listed meshes in another numbering.
@@ -264,13 +290,106 @@ struct Tally {
 }
 
 impl Tally {
-    /// Compares the program's output with the second program's listing. A difference ends the test, with
-    /// the input in a file. Gives the lines.
+    fn new(lister: Lister) -> Tally {
+        let mut random = Random::new(20_261_116);
+        // As many as the longest output buffer has, with the bytes on both sides, and more.
+        let junk = junk(&mut random, LARGEST_LISTING + 5_000);
+        Tally {
+            lister,
+            random,
+            junk,
+            inputs: 0,
+            numbers: [0; 21],
+            rooms: [0; 5],
+            before_20: 0,
+            longer: [0; 2],
+            renumbered: 0,
+            deepest: 0,
+            full: [0; 3],
+            greatest: [0; 2],
+            leaves: 0,
+            longest: [0; 2],
+        }
+    }
+
+    /// Calls the function with one output buffer, filled with junk before the call, guard bytes on both
+    /// sides, and compares with the second program. Gives the answer and the buffer.
+    fn call(&mut self, name: &str, input: &[u8], room: usize) -> (Listed, Vec<u8>) {
+        // Not always at the same alignment.
+        let before = GUARD + self.random.below(8);
+        let length = before + room + GUARD;
+        let from = self.random.below(self.junk.len() - length);
+        let whole = &self.junk[from..from + length];
+        let (mut proved, mut second) = (whole.to_vec(), whole.to_vec());
+        let given = input.to_vec();
+        let part = before..before + room;
+        let answer = tmb_list(&given, &mut proved[part.clone()]);
+        assert!(given == input, "{name}: the input is only read");
+        let wanted = list_into(input, &mut second[part.clone()]);
+        if answer != wanted || proved != second {
+            let file = differs(input);
+            let at = (0..length).find(|&at| proved[at] != second[at]);
+            panic!(
+                "{name}, {room} bytes: proved {answer:?}, second {wanted:?}, first different byte {:?} \
+                 (guard bytes are below 0 or from {room}); the input is in {file}",
+                at.map(|at| at as i64 - before as i64)
+            );
+        }
+        // Also without the second program.
+        assert_eq!(proved[..before], whole[..before], "{name}: guard bytes");
+        assert_eq!(proved[part.end..], whole[part.end..], "{name}: guard bytes");
+        (answer, proved[part].to_vec())
+    }
+
+    /// The function with output buffers of 0, one less than the text, the text, full-size and longer; a
+    /// longer mesh only with the text's and another of them. Gives the text.
+    fn called(&mut self, name: &str, input: &[u8]) -> Vec<u8> {
+        let own = match input.len() > LARGEST_MESH {
+            true => 1,
+            false => tmb_check(input).number,
+        };
+        let length = list(input).len();
+        let longer = LARGEST_LISTING + 1 + self.random.below(2_000);
+        let rooms = [0, length - 1, length, LARGEST_LISTING, longer];
+        let other = [0, 1, 3, 4][self.random.below(4)];
+        let short = input.len() < 200;
+        let mut text = Vec::new();
+        let mut too_short = false;
+        for kind in (0..5).filter(|&kind| short || kind == 2 || kind == other) {
+            let room = rooms[kind];
+            let (answer, out) = self.call(name, input, room);
+            self.rooms[kind] += 1;
+            let zeros = |part: &[u8]| part.iter().all(|&byte| byte == 0);
+            let Listed { number, length: so } = answer;
+            if room < length {
+                let wanted = if own == 0 { 20 } else { own };
+                assert_eq!((number, so), (wanted, 0), "{name}: {room} bytes");
+                assert!(zeros(&out), "{name}: zero throughout");
+                too_short |= number == 20;
+                self.before_20 += u64::from(number != 20);
+            } else {
+                assert_eq!((number, so), (own, length as u64), "{name}: {room} bytes");
+                assert!(zeros(&out[length..]), "{name}: zero past the text");
+                assert!(!zeros(&out[length - 1..]), "{name}: the text's last byte");
+            }
+            if kind == 2 {
+                text = out;
+            }
+        }
+        self.numbers[20] += u64::from(too_short);
+        text
+    }
+
+    /// Compares the output with the second program's listing. A difference ends the test, with the input in
+    /// a file. Gives the lines.
     fn compare(&mut self, name: &str, input: &[u8]) -> String {
-        let (lines, wanted) = (listed(input), list(input));
+        let lines = match self.lister {
+            Lister::Program => listed(input),
+            Lister::Function => self.called(name, input),
+        };
+        let wanted = list(input);
         if lines != wanted {
-            let file = format!("{}/differs.list", env!("CARGO_TARGET_TMPDIR"));
-            fs::write(&file, input).expect("the input is written");
+            let file = differs(input);
             let [proved, second] = [&lines, &wanted].map(|text| String::from_utf8_lossy(text));
             let mut both = proved.lines().zip(second.lines());
             let different = both.find(|(proved, second)| proved != second);
@@ -377,10 +496,12 @@ impl Tally {
 
     fn add(&mut self, other: &Tally) {
         self.inputs += other.inputs;
+        self.before_20 += other.before_20;
         self.renumbered += other.renumbered;
         self.deepest += other.deepest;
         self.leaves += other.leaves;
         sum(&mut self.numbers, &other.numbers);
+        sum(&mut self.rooms, &other.rooms);
         sum(&mut self.longer, &other.longer);
         sum(&mut self.full, &other.full);
         sum(&mut self.greatest, &other.greatest);
@@ -396,29 +517,37 @@ fn sum(mine: &mut [u64], theirs: &[u64]) {
     }
 }
 
+/// An input on which the two differ, in a file.
+fn differs(input: &[u8]) -> String {
+    let file = format!("{}/differs.list", env!("CARGO_TARGET_TMPDIR"));
+    fs::write(&file, input).expect("the input is written");
+    file
+}
+
 /// One part of the comparison.
 type Part = fn(&mut Tally, &mut Random);
 
-/// Each part with the times it is done, each time with numbers of its own.
-const PARTS: [(Part, usize); 18] = [
-    (full_records, 1),
-    (greatest_volumes, 1),
-    (full_tables_of_base_records, 1),
-    (full_tables, 1),
-    (full_vertices, 1),
-    (too_long, 1),
-    (matching_lengths, 1),
-    (lengths, 1),
-    (jobs_and_rounds, 1),
-    (worked, 1),
-    (byte_changes_of_k, 1),
-    (deep, 6),
-    (singles, 2),
-    (refined_and_renumbered, 40),
-    (open_cuts, 40),
-    (each_damage, 12),
-    (damaged_meshes, 20),
-    (random_bytes, 2),
+/// Each part with the times it is done, each time with numbers of its own: by the program, and by the
+/// function.
+const PARTS: [(Part, [usize; 2]); 18] = [
+    (full_records, [1, 1]),
+    (greatest_volumes, [1, 1]),
+    (full_tables_of_base_records, [1, 1]),
+    (full_tables, [1, 1]),
+    (full_vertices, [1, 1]),
+    (too_long, [1, 1]),
+    (matching_lengths, [1, 1]),
+    (lengths, [1, 1]),
+    (jobs_and_rounds, [1, 2]),
+    (worked, [1, 1]),
+    (byte_changes_of_k, [1, 10]),
+    (deep, [6, 12]),
+    (singles, [2, 20]),
+    (refined_and_renumbered, [40, 600]),
+    (open_cuts, [40, 1_000]),
+    (each_damage, [12, 160]),
+    (damaged_meshes, [20, 400]),
+    (random_bytes, [2, 60]),
 ];
 
 /// With any job and round, the greatest often: check asks nothing of either.
@@ -778,27 +907,29 @@ fn seed() -> u64 {
     }
 }
 
-#[test]
-fn the_program_and_the_second_agree() {
+/// Does all parts with the program or with the function, and asserts what holds of both.
+fn compared(name: &str, lister: Lister) -> Tally {
     let seed = seed();
     let tasks: Vec<Part> = PARTS
         .into_iter()
-        .flat_map(|(part, times)| vec![part; times])
+        .flat_map(|(part, times)| vec![part; times[lister as usize]])
         .collect();
     let next = AtomicUsize::new(0);
     let work = || {
-        let mut tally = Tally::default();
+        let mut tally = Tally::new(lister);
         loop {
             let number = next.fetch_add(1, Ordering::Relaxed);
             let Some(part) = tasks.get(number) else {
                 return tally;
             };
             // The same numbers whichever thread takes the task.
-            let mut random = Random::new(seed ^ (number as u64 + 1) << 32);
+            let own = seed ^ (number as u64 + 1) << 32;
+            let mut random = Random::new(own);
+            tally.random = Random::new(!own);
             part(&mut tally, &mut random);
         }
     };
-    let mut tally = Tally::default();
+    let mut tally = Tally::new(lister);
     thread::scope(|scope| {
         let threads = [scope.spawn(work), scope.spawn(work)];
         for thread in threads {
@@ -811,13 +942,15 @@ fn the_program_and_the_second_agree() {
 
     // Not by println, which a passing test keeps to itself.
     let mut out = std::io::stdout().lock();
-    let mut line = |text: String| writeln!(out, "list compared: {text}").expect("a line");
+    let mut line = |text: String| writeln!(out, "{name} compared: {text}").expect("a line");
     line(format!(
         "seed {seed} (COMPARED_SEED), {} inputs",
         tally.inputs
     ));
     for (number, times) in tally.numbers.iter().enumerate() {
-        line(format!("number {number}: {times}"));
+        if *times > 0 {
+            line(format!("number {number}: {times}"));
+        }
     }
     line(format!(
         "longer than the largest mesh {}, another number by check alone in {}",
@@ -838,10 +971,13 @@ fn the_program_and_the_second_agree() {
         tally.leaves, tally.longest[0], tally.longest[1]
     ));
 
-    assert!(tally.inputs >= FEWEST);
-    assert!(tally.numbers[0] >= FEWEST_LISTED);
-    for (number, &times) in tally.numbers.iter().enumerate() {
-        assert!(times >= FEWEST_OF_EACH, "number {number}: {times} times");
+    assert!(tally.inputs >= FEWEST[lister as usize]);
+    assert!(tally.numbers[0] >= FEWEST_LISTED[lister as usize]);
+    for (number, &times) in tally.numbers[..11].iter().enumerate() {
+        assert!(
+            times >= FEWEST_OF_EACH[lister as usize],
+            "number {number}: {times} times"
+        );
     }
     assert!(tally.longer[0] >= 50 && tally.longer[1] >= 15);
     assert!(tally.renumbered >= 50);
@@ -850,6 +986,30 @@ fn the_program_and_the_second_agree() {
     assert!(tally.greatest.iter().all(|&times| times >= 50));
     assert!(tally.leaves >= 15_000);
     assert!(tally.longest[0] >= 100 && tally.longest[1] >= 40);
+    tally
+}
+
+#[test]
+fn the_program_and_the_second_agree() {
+    compared("list", Lister::Program);
+}
+
+#[test]
+fn the_function_and_the_second_agree() {
+    let tally = compared("tmb_list", Lister::Function);
+    let calls: u64 = tally.rooms.iter().sum();
+    let mut out = std::io::stdout().lock();
+    let mut line = |text: String| writeln!(out, "tmb_list compared: {text}").expect("a line");
+    line(format!(
+        "{calls} calls, with output buffers of 0, one less than the text, the text, full-size, longer: {:?}",
+        tally.rooms
+    ));
+    line(format!("refused in too short a buffer {}", tally.before_20));
+    drop(out);
+
+    assert!(tally.numbers[20] >= FEWEST_OF_EACH[1]);
+    assert!(tally.rooms.iter().all(|&times| times >= 1_000));
+    assert!(tally.before_20 >= 1_000);
 }
 
 /// "Reads at most 62,485 bytes": the program shares its place in a file with us, and where it stopped
@@ -950,10 +1110,9 @@ fn an_input_that_comes_in_parts() {
     }
 }
 
-/// "Each line is set in a 128-byte line buffer before it is written": no write has less than a line, none
-/// has more.
+/// One write has the whole listing.
 #[test]
-fn each_line_is_written_by_itself() {
+fn the_listing_is_written_at_once() {
     for input in [
         stored("worked.tmb"),
         stored("cube.tmb"),
@@ -968,7 +1127,7 @@ fn each_line_is_written_by_itself() {
         let mut child = started(command);
         let reader = thread::spawn(move || {
             let mut writes = Vec::new();
-            let mut message = [0; 65_536];
+            let mut message = vec![0; LARGEST_LISTING];
             loop {
                 match ours.recv(&mut message).expect("a message") {
                     0 => return writes,
@@ -980,10 +1139,7 @@ fn each_line_is_written_by_itself() {
         theirs.send(&[]).expect("the last message");
         let writes = reader.join().expect("messages");
         assert_eq!(status.code(), Some(0));
-        let wanted = list(&input);
-        let lines = wanted.split_inclusive(|&byte| byte == b'\n');
-        assert!(lines.eq(writes.iter()), "{} bytes", input.len());
-        assert!(writes.iter().all(|write| write.len() <= LINE));
+        assert!(writes == [list(&input)], "{} bytes", input.len());
     }
 }
 

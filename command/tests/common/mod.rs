@@ -8,22 +8,8 @@ use std::ffi::OsStr;
 use std::fs;
 use std::io::Write;
 use std::os::unix::ffi::OsStrExt;
-use std::os::unix::fs::symlink;
 use std::path::{Path, PathBuf};
 use std::process::{Command, Output, Stdio};
-
-/// The listing program: LIST_PROGRAM in the environment, else the one that the gate builds.
-pub fn list_program() -> PathBuf {
-    let given = std::env::var_os("LIST_PROGRAM").filter(|path| !path.is_empty());
-    let package = Path::new(env!("CARGO_MANIFEST_DIR"));
-    let path = package.join(given.unwrap_or_else(|| "../target/bin/list".into()));
-    assert!(
-        path.is_file(),
-        "{} is not there: build the crate list, or set LIST_PROGRAM to a program that lists",
-        path.display()
-    );
-    path
-}
 
 /// A folder of its own for one test, with the program to run in it.
 pub struct Desk {
@@ -40,14 +26,6 @@ impl Desk {
             folder,
             program: env!("CARGO_BIN_EXE_tmb").into(),
         }
-    }
-
-    /// A desk whose `tmb` has this program beside it as `tmb-list`.
-    pub fn with_list(name: &str, list: &Path) -> Desk {
-        let mut desk = Desk::new(name);
-        desk.link_program();
-        symlink(list, desk.program.with_file_name("tmb-list")).unwrap();
-        desk
     }
 
     /// Puts `tmb` into a folder of its own. A link, so that no program is run that is still written.

@@ -1,5 +1,5 @@
-//! A round on K with what an installation has: build, refine, check, and the used selection again. The
-//! functions are declared as tmb.h has them.
+//! A round on K with what an installation has: build, refine, check, list, and the used selection again.
+//! The functions are declared as tmb.h has them.
 
 #[repr(C)]
 struct Report {
@@ -9,6 +9,12 @@ struct Report {
     sixfold: u64,
     record: u64,
     edge: u64,
+}
+
+#[repr(C)]
+struct Listed {
+    number: u64,
+    length: u64,
 }
 
 extern "C" {
@@ -30,6 +36,7 @@ extern "C" {
         out: *mut u8,
         room: usize,
     ) -> u32;
+    fn tmb_list(mesh: *const u8, mesh_length: usize, out: *mut u8, room: usize) -> Listed;
 }
 
 fn refine(mesh: &[u8], selection: &[u8], out: &mut [u8]) -> u32 {
@@ -62,5 +69,12 @@ fn main() {
     } = report;
     println!("check {number} leaves {leaves} deepest {deepest} sixfold {sixfold}");
     assert_eq!((report.record, report.edge), (0, 0));
+    let mut text = vec![0; 393_344];
+    // SAFETY: the pointers and the lengths are those of an array and a vector, which don't overlap.
+    let Listed { number, length } = unsafe {
+        let (from, to) = (refined.as_ptr(), text.as_mut_ptr());
+        tmb_list(from, refined.len(), to, text.len())
+    };
+    println!("list {number} length {length}");
     println!("refine {}", refine(&refined, &selected, &mut again));
 }
