@@ -3,21 +3,25 @@
 --
 -- `check(mesh)` returns `checkOf mesh`. `build(job, coordinates, corners, out)` returns `buildNumber job coordinates corners room` and leaves
 -- `buildBytes job coordinates corners room` in `out`; `refine(mesh, selection, out)` returns `refineNumber mesh selection room` and leaves
--- `refineBytes mesh selection room` in `out`; `room` is the length of `out`. That no second outcome fits is said beside the contracts: `one-check`,
--- `one-build`, `one-refine`. This page says which outcomes these are, for every input.
+-- `refineBytes mesh selection room` in `out`; `list(mesh, out)` returns `listNumber mesh room` and `listLength mesh room` and leaves `listBytes mesh room` in
+-- `out`; `room` is the length of `out`. That no second outcome fits is said beside the contracts: `one-check`, `one-build`, `one-refine`, `one-listing`. This
+-- page says which outcomes these are, for every input.
 --
 -- "No caller has to have checked first": none of the contracts has a `requires`, and each definition is total. `Bytes` and `ArgumentTypes` are what the
 -- types of the arguments say (a `&[u8]` holds bytes; the job is a u32, the coordinates are i16, the corners u16); without them a number might not fit
 -- where it is stored. In `promises` no such hypothesis is left.
 -- "The inputs stand as they were": each input is a shared borrow (`&[u8]`, `&[i16]`, `&[u16]`), through which nothing can be written; `out` is the
 -- only `&mut`.
-use mathlib.Core.Path.{_≡_}
+use mathlib.Core.Path.{_≡_, _∙_}
 use mathlib.Core.Logic.{_≢_, _⊎_, inl, inr, ⊎-elim}
 use mathlib.Core.List.{List, [], _∷_, _++_}
 use Prim.Native.Nat.{ℕ, _-_, _≤_, _<_}
 use native.Mathlib.Omega.{arith}
 use lib.ListN.{length, getD, replicate}
 use lib.IntN.{ℤ}
+use lib.Dec.{ltb}
+use borrow.Author.Tests.{ltb-true, ltb-false}
+use Rattle.laws.specs.Below.{either}
 use Rattle.check_refusals.specs.Tables.{tablesOf}
 use Rattle.laws.specs.Lists.{Bytes}
 use Rattle.stored.specs.Layout.{limits, meshLength, headerOf, Mesh, meshBytes}
@@ -30,8 +34,10 @@ use Rattle.build_meaning.specs.Output as Build
 use Rattle.refine_service.specs.Refine.{closed, resultOf, refineNumber, refineBytes}
 use Rattle.refine_meaning.specs.Answer as Refine
 use Rattle.list_lines.specs.Lines.{refusedLine, lineRoom}
-use Rattle.list_service.specs.Listing.{linesOf, meshLines}
-use Rattle.list_meaning.specs.Longest.{no-line-longer}
+use Rattle.list_service.specs.declared.Listed.{Listed}
+use Rattle.list_service.specs.Listing.{linesOf, meshLines, listingOf, listedNumber, ListOutcomeIs, largestListing}
+use Rattle.list_meaning.specs.Answer.{list-whole, list-short}
+use Rattle.list_meaning.specs.Longest.{no-line-longer, listing-at-most}
 use Rattle.demands.specs.Words.{StoredMesh, ArgumentTypes, RefinedFrom}
 use Rattle.demands.specs.GivenTypes.{given-by-types}
 use Rattle.demands.specs.Outcomes.{zero-or-not, check-number, refused-figures, no-hanging-edge, accepted-length, build-number, built-vertices, built-records, built-as-long, built-few, built-within, built-bytes, built-header, built-checked, refine-refused, refine-length, refined-vertices, refined-records, refined-as-long, refined-few, refined-within, refined-header, too-long-line, refused-line, accepted-lines, line-ends}
@@ -91,8 +97,16 @@ pub record RefineOutcome (mesh selection : List ℕ) (room number : ℕ) (bytes 
   -- Which mesh it is, whatever the buffer's length: what demand 3 says of the least closing set, and that set alone.
   pub refined : number ≡ 0 → (x : StoredMesh mesh) → RefinedFrom x selection bytes room
 
--- What the listing says, for a byte string: its lines. No contract can say what a program writes; the functions that set the lines have contracts.
-pub record ListingOutcome (s : List ℕ) : Type 0 where
+-- What list answers, for a byte string and a length of the output buffer, and which lines it writes. No contract can say what a program writes: the program
+-- `list` writes what this function gives.
+pub record ListOutcome (s : List ℕ) (room : ℕ) (r : Listed) (out : List ℕ) : Type 0 where
+  -- The listing and zeros past it, with its length and the number that it says: check's, or 1 for what is longer than the largest mesh; or the buffer is
+  -- shorter than the listing: "all zeros", and 20 in place of 0.
+  pub either :
+      ((r .number ≡ listedNumber s) × (r .length ≡ length (listingOf s)) × (out ≡ listingOf s ++ replicate (room - length (listingOf s)) 0))
+      ⊎ ((room < length (listingOf s)) × ((r .number ≡ 20) ⊎ ((1 ≤ r .number) × (r .number ≡ listedNumber s))) × (r .length ≡ 0) × (out ≡ replicate room 0))
+  -- 393,344 bytes hold every listing.
+  pub enough : largestListing ≤ room → length (listingOf s) ≤ room
   -- "Input longer than the largest mesh is refused with 1 here": "one line, `refused ` and the number".
   pub too-long : meshLength (limits .vertices) (limits .records) < length s → linesOf s ≡ refusedLine 1 ∷ []
   -- What check refuses is refused with its number, in one line.
@@ -101,9 +115,8 @@ pub record ListingOutcome (s : List ℕ) : Type 0 where
   pub accepted : length s ≤ meshLength (limits .vertices) (limits .records) → checkOf s .number ≡ 0 → linesOf s ≡ meshLines (tablesOf s) (checkOf s)
   -- "Every line ends with a line feed", whose byte is 10.
   pub line-feed : (k : ℕ) → k < length (linesOf s) → (text : List ℕ) × (getD (linesOf s) k [] ≡ text ++ 10 ∷ [])
-  -- "Each line is set in a 128-byte line buffer": none is longer. `Bytes` says that the elements of the byte string are bytes, as those of a `&[u8]`
-  -- are; without it a number might have more digits.
-  pub at-most-128 : Bytes s → (k : ℕ) → length (getD (linesOf s) k []) ≤ lineRoom
+  -- "Each line is set in a 128-byte line buffer": none is longer.
+  pub at-most-128 : (k : ℕ) → length (getD (linesOf s) k []) ≤ lineRoom
 
 -- ---- the theorems
 
@@ -179,6 +192,18 @@ refine-outcome mesh selection b room =
           header = refined-header mesh selection room e b;
         }
 
--- Every byte string has one of the listing's.
-pub listing-outcome : (s : List ℕ) → ListingOutcome s
-listing-outcome s = record { too-long = too-long-line s; refused = refused-line s; accepted = accepted-lines s; line-feed = line-ends s; at-most-128 = no-line-longer s }
+-- Every byte string and every length of the output buffer have one of list's.
+pub list-outcome : (s : List ℕ) → Bytes s → (room : ℕ) (r : Listed) (out : List ℕ) → ListOutcomeIs s room r out → ListOutcome s room r out
+list-outcome s b room r out is =
+    record {
+      either = ⊎-elim
+          (λ t. let short = ltb-true room (length (listingOf s)) t in let is′ = list-short s room short in inr (short, rw (is .number) (is′ .0), is .length ∙ is′ .1, is .bytes ∙ is′ .2))
+          (λ f. let is′ = list-whole s room (ltb-false room (length (listingOf s)) f) in inl (is .number ∙ is′ .0, is .length ∙ is′ .1, is .bytes ∙ is′ .2))
+          (either (ltb room (length (listingOf s))));
+      enough = λ l. let most = listing-at-most s b in omega (arith, l, most);
+      too-long = too-long-line s;
+      refused = refused-line s;
+      accepted = accepted-lines s;
+      line-feed = line-ends s;
+      at-most-128 = no-line-longer s b;
+    }

@@ -1,6 +1,6 @@
 -- No line of a listing is longer than the line buffer, and no listing longer than a line for each record that there may be and the heading,
 -- whatever the bytes: so a buffer of that size holds every listing.
-use mathlib.Core.Path.{_≡_, refl, sym}
+use mathlib.Core.Path.{_≡_, refl}
 use mathlib.Core.Logic.{_≢_, ⊎-elim}
 use mathlib.Core.Bool.{Bool, true, false, cond}
 use mathlib.Core.List.{List, [], _∷_, _++_}
@@ -9,7 +9,7 @@ use native.Mathlib.Omega.{arith}
 use lib.Dec.{ltb, eqb}
 use lib.ListN.{length, take, getD, replicate, length-append}
 use lib.Seq.{take-at}
-use borrow.Author.Tests.{ltb-true, ltb-false, le-ltb, eqb-true, eqb-false}
+use borrow.Author.Tests.{ltb-true, ltb-false, eqb-true, eqb-false}
 use Rattle.laws.specs.Below.{either}
 use Rattle.laws.specs.Lists.{Bytes}
 use Rattle.stored.specs.Layout.{limits}
@@ -20,7 +20,8 @@ use Rattle.check_service.specs.Verdict.{accepted-bounded}
 use Rattle.list_lines.specs.Lines.{lineRoom, refusedLine, headingLine, leafLine}
 use Rattle.list_service.specs.Listing.{largestMesh, leafLines, meshLines, judgedLines, linesOf, textOf, listingOf, listedNumber, listNumber, listLength, listBytes, largestListing}
 use Rattle.list_service.specs.Lengths.{refused-long, leaf-fits, record-of, heading-fits}
-use Rattle.list_service.specs.Putting.{leavesText, leaves-long, judged-refused, judged-listed, longer-text, longer-number, judged-text, judged-number}
+use Rattle.list_meaning.specs.Answer.{list-whole}
+use Rattle.list_service.specs.Putting.{leaves-long, judged-refused, judged-listed, longer-text, longer-number, judged-text, judged-number}
 
 -- Lines that are each as long as the buffer at most.
 abbrev Fit : List (List ℕ) → Type 0
@@ -75,8 +76,8 @@ module _ (s : List ℕ) (b : Bytes s) where
   judged-at-most =
       ⊎-elim
       (λ t. let good = eqb-true (checkOf s .number) 0 t in
-      rw (judged-listed (tablesOf s) (checkOf s) good, length-append (headingLine (tablesOf s .header) (checkOf s)) (leavesText (tablesOf s .recordAt) (allRecords (tablesOf s))))
-      (omega (arith, heading-fits s b (checkOf s) refl good, leaves-long (tablesOf s .recordAt) (record-of s b) (allRecords (tablesOf s)) (omega (arith, few-records s good)), few-records s good)))
+      rw (judged-listed (tablesOf s) (checkOf s) good, length-append (headingLine (tablesOf s .header) (checkOf s)) (textOf (leafLines (tablesOf s) (allRecords (tablesOf s)))))
+      (omega (arith, heading-fits s b (checkOf s) refl good, leaves-long (tablesOf s) (record-of s b) (allRecords (tablesOf s)) (omega (arith, few-records s good)), few-records s good)))
       (λ f. rw (judged-refused (tablesOf s) (checkOf s) (eqb-false (checkOf s .number) 0 f)) (omega (arith, refused-long (checkOf s .number) (omega (arith, number-small s)))))
       (either (eqb (checkOf s .number) 0))
 
@@ -88,26 +89,17 @@ module _ (s : List ℕ) (b : Bytes s) where
       (λ f. rw (judged-text s (ltb-false largestMesh (length s) f)) judged-at-most)
       (either (ltb largestMesh (length s)))
 
-  -- So a buffer of that size never gets 20: the number is the mesh's own,
+  -- So a buffer of that size never gets 20, and the text that it is told the length of is the whole listing.
   module _ (room : ℕ) (enough : largestListing ≤ room) where
-    pub own-number : listNumber s room ≡ listedNumber s
-    unfolding listNumber
-    own-number = rw (le-ltb room (length (listingOf s)) (omega (arith, listing-at-most))) (go (listedNumber s) (eqb (listedNumber s) 0) (eqb-true (listedNumber s) 0))
-      where
-        go : (n : ℕ) (none : Bool) → (none ≡ true → n ≡ 0) → cond none 0 n ≡ n
-        go n true is = sym (is refl)
-        go n false is = refl
+    whole : (listNumber s room ≡ listedNumber s) × (listLength s room ≡ length (listingOf s)) × (listBytes s room ≡ listingOf s ++ replicate (room - length (listingOf s)) 0)
+    whole = list-whole s room (omega (arith, listing-at-most))
 
     pub never-20 : listNumber s room ≢ 20
     never-20 e =
         ⊎-elim
-        (λ t. omega (arith, e, own-number, longer-number s (ltb-true largestMesh (length s) t)))
-        (λ f. omega (arith, e, own-number, judged-number s (ltb-false largestMesh (length s) f), number-small s))
+        (λ t. omega (arith, e, whole .0, longer-number s (ltb-true largestMesh (length s) t)))
+        (λ f. omega (arith, e, whole .0, judged-number s (ltb-false largestMesh (length s) f), number-small s))
         (either (ltb largestMesh (length s)))
 
-    -- and the text that it is told the length of is the whole listing.
     pub whole-listing : take (listLength s room) (listBytes s room) ≡ listingOf s
-    unfolding listLength listBytes
-    whole-listing =
-        rw (le-ltb room (length (listingOf s)) (omega (arith, listing-at-most)))
-        (take-at (listingOf s) (replicate (room - length (listingOf s)) 0) (length (listingOf s)) refl)
+    whole-listing = rw (whole .1, whole .2) (take-at (listingOf s) (replicate (room - length (listingOf s)) 0) (length (listingOf s)) refl)

@@ -1,1 +1,2 @@
-// What the listing says: the worked example, and no line longer than its buffer. It has no code: everything is in specs/.
+// What the listing says: the worked example, no line longer than its buffer, and a buffer that holds any listing. It has no code: everything is in
+// specs/.

@@ -48,7 +48,7 @@ listingOf s = textOf (linesOf s)
 unfoldable pub listedNumber : List ℕ → ℕ
 listedNumber s = let judged = checkOf s .number in cond (ltb largestMesh (length s)) 1 judged
 
--- The mesh's own number, and where that is 0, 20: "the output buffer is shorter than the result".
+-- The mesh's own number; else 20, "the output buffer is shorter than the result", or 0.
 unfoldable pub listNumber : List ℕ → ℕ → ℕ
 listNumber s room =
     let own = listedNumber s in
@@ -66,13 +66,18 @@ listBytes s room =
     let whole = text ++ replicate (room - length text) 0 in
     cond (ltb room (length text)) (replicate room 0) whole
 
--- What list returns for these bytes, and what it leaves in a buffer of so many.
-abbrev pub ListOutcomeIs : List ℕ → ℕ → Listed → List ℕ → Type 0
-ListOutcomeIs s room r bytes = (r ≡ record { number = listNumber s room; length = listLength s room }) × (bytes ≡ listBytes s room)
+-- "Each public function states one outcome for each input: number, counts and all bytes of the output, refused or not."
+pub record ListOutcomeIs (mesh : List ℕ) (room : ℕ) (r : Listed) (out : List ℕ) : Type 0 where
+  pub number : r .number ≡ listNumber mesh room
+  pub length : r .length ≡ listLength mesh room
+  pub bytes : out ≡ listBytes mesh room
 
--- No second outcome fits an input: number, length and all bytes.
-pub one-listing : (s : List ℕ) (room : ℕ) (r r′ : Listed) (bytes bytes′ : List ℕ) → ListOutcomeIs s room r bytes → ListOutcomeIs s room r′ bytes′ → (r ≡ r′) × (bytes ≡ bytes′)
-one-listing s room r r′ bytes bytes′ a b = (a .0 ∙ sym (b .0), a .1 ∙ sym (b .1))
+-- "That no second outcome fits is itself proved"
+pub one-listing : (mesh : List ℕ) (room : ℕ) (r r′ : Listed) (out out′ : List ℕ) → ListOutcomeIs mesh room r out → ListOutcomeIs mesh room r′ out′ → (r ≡ r′) × (out ≡ out′)
+one-listing mesh room r r′ out out′ is is′ =
+    let number = is .number ∙ sym (is′ .number) in
+    let length = is .length ∙ sym (is′ .length) in
+    (λ i. record { number = number i; length = length i }, is .bytes ∙ sym (is′ .bytes))
 
 -- A buffer that holds any listing: a line for each record that there may be, and the heading.
 abbrev pub largestListing : ℕ

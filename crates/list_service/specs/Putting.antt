@@ -48,13 +48,9 @@ set-whole buffer text b at l e = ap (λ (k : Line). take (k .at) (k .bytes)) e �
 
 -- ---- the leaves
 
--- A record's line, if it is a leaf, and those of the records below n.
+-- A record's line, if it is a leaf.
 unfoldable pub leafText : Record → ℕ → List ℕ
 leafText r n = let text = leafLine n (r .piece) in cond (uncut r) text []
-
-unfoldable pub leavesText : (ℕ → Record) → ℕ → List ℕ
-leavesText recordAt zero = []
-leavesText recordAt (suc n) = leavesText recordAt n ++ leafText (recordAt n) n
 
 text-long : (n : ℕ) (r : Record) → n < 10 ^ 10 → RecordFits r → length (leafText r n) ≤ lineRoom
 unfolding leafText
@@ -64,34 +60,31 @@ text-long n r l fits = go (uncut r)
     go true = leaf-fits n r l fits
     go false = omega arith
 
-module _ (recordAt : ℕ → Record) where
-  pub leaves-none : leavesText recordAt 0 ≡ []
-  unfolding leavesText
+module _ (m : Tables) where
+  pub leaves-none : textOf (leafLines m 0) ≡ []
+  unfolding leafLines joined
   leaves-none = refl
 
-  pub leaves-next : (n : ℕ) → leavesText recordAt (n + 1) ≡ leavesText recordAt n ++ leafText (recordAt n) n
-  unfolding leavesText
-  leaves-next n = rw (add-one n)
+  leaves-suc : (n : ℕ) → textOf (leafLines m (suc n)) ≡ textOf (leafLines m n) ++ leafText (m .recordAt n) n
+  unfolding leafLines leafText joined
+  leaves-suc n =
+      joined-append (λ (l : List ℕ). l) (leafLines m n) (cond (isLeaf m n) (leafLine n (pieceAt m n) ∷ []) [])
+      ∙ ap (λ (t : List ℕ). textOf (leafLines m n) ++ t) (one (isLeaf m n))
+    where
+      one : (leaf : Bool) → textOf (cond leaf (leafLine n (pieceAt m n) ∷ []) []) ≡ cond leaf (leafLine n (pieceAt m n)) []
+      one true = append-nil (leafLine n (pieceAt m n))
+      one false = refl
 
-  -- So many records have at most so many lines.
-  pub leaves-long : ((n : ℕ) → RecordFits (recordAt n)) → (n : ℕ) → n ≤ 10 ^ 10 → length (leavesText recordAt n) ≤ lineRoom * n
-  unfolding leavesText
-  leaves-long fits zero l = omega arith
+  -- one record more
+  pub leaves-next : (n : ℕ) → textOf (leafLines m (n + 1)) ≡ textOf (leafLines m n) ++ leafText (m .recordAt n) n
+  leaves-next n = rw (add-one n) (leaves-suc n)
+
+  -- so many records have at most so many lines
+  pub leaves-long : ((n : ℕ) → RecordFits (m .recordAt n)) → (n : ℕ) → n ≤ 10 ^ 10 → length (textOf (leafLines m n)) ≤ lineRoom * n
+  leaves-long fits zero l = rw leaves-none (omega arith)
   leaves-long fits (suc n) l =
-      rw (length-append (leavesText recordAt n) (leafText (recordAt n) n))
-      (omega (arith, leaves-long fits n (omega arith), text-long n (recordAt n) (omega arith) (fits n)))
-
--- They are the lines of the leaves.
-leaves-text : (m : Tables) (n : ℕ) → textOf (leafLines m n) ≡ leavesText (m .recordAt) n
-unfolding leafLines leavesText leafText joined
-leaves-text m zero = refl
-leaves-text m (suc n) =
-    joined-append (λ (l : List ℕ). l) (leafLines m n) (cond (isLeaf m n) (leafLine n (pieceAt m n) ∷ []) [])
-    ∙ (λ i. leaves-text m n i ++ one (isLeaf m n) i)
-  where
-    one : (leaf : Bool) → textOf (cond leaf (leafLine n (pieceAt m n) ∷ []) []) ≡ cond leaf (leafLine n (pieceAt m n)) []
-    one true = append-nil (leafLine n (pieceAt m n))
-    one false = refl
+      rw (leaves-suc n, length-append (textOf (leafLines m n)) (leafText (m .recordAt n) n))
+      (omega (arith, leaves-long fits n (omega arith), text-long n (m .recordAt n) (omega arith) (fits n)))
 
 -- ---- the whole
 
@@ -104,10 +97,9 @@ module _ (m : Tables) (r : Report) where
   unfolding judgedLines
   judged-refused n = rw (ne-eqb (r .number) 0 n) (refused-text (r .number))
 
-  pub judged-listed : r .number ≡ 0 → textOf (judgedLines m r) ≡ headingLine (m .header) r ++ leavesText (m .recordAt) (allRecords m)
+  pub judged-listed : r .number ≡ 0 → textOf (judgedLines m r) ≡ headingLine (m .header) r ++ textOf (leafLines m (allRecords m))
   unfolding judgedLines meshLines joined
-  judged-listed e =
-      rw (eq-eqb (r .number) 0 e) (ap (λ (t : List ℕ). headingLine (m .header) r ++ t) (leaves-text m (allRecords m)))
+  judged-listed e = rw (eq-eqb (r .number) 0 e)
 
 module _ (s : List ℕ) where
   pub longer-text : largestMesh < length s → listingOf s ≡ refusedLine 1
@@ -141,8 +133,11 @@ module _ (s : List ℕ) (room : ℕ) (b : List ℕ) (r : Listed) (whole : Listin
   unfolding listNumber listLength listBytes
   answer-whole l =
       let fits : length (listingOf s) ≤ room = omega (arith, long) in
-      rw (le-ltb room (length (listingOf s)) fits)
-      ((λ i. record { number = own i; length = long i }), whole .text .bytes ∙ clear-with room (listingOf s) fits)
+      record {
+        number = rw (le-ltb room (length (listingOf s)) fits) own;
+        length = rw (le-ltb room (length (listingOf s)) fits) long;
+        bytes = rw (le-ltb room (length (listingOf s)) fits) (whole .text .bytes ∙ clear-with room (listingOf s) fits);
+      }
     where
       own : r .number ≡ cond (eqb (listedNumber s) 0) 0 (listedNumber s)
       own = whole .number ∙ go (listedNumber s) (eqb (listedNumber s) 0) (eqb-true (listedNumber s) 0)
@@ -155,5 +150,8 @@ module _ (s : List ℕ) (room : ℕ) (b : List ℕ) (r : Listed) (whole : Listin
   unfolding listNumber listLength listBytes
   answer-short l number e =
       let short : room < length (listingOf s) = omega (arith, long) in
-      rw (lt-ltb room (length (listingOf s)) short)
-      ((λ i. record { number = (e ∙ ap (λ (n : ℕ). cond {A = ℕ} (eqb n 0) 20 n) (whole .number)) i; length = 0 }), refl)
+      record {
+        number = rw (lt-ltb room (length (listingOf s)) short) (e ∙ ap (λ (n : ℕ). cond {A = ℕ} (eqb n 0) 20 n) (whole .number));
+        length = rw (lt-ltb room (length (listingOf s)) short) refl;
+        bytes = rw (lt-ltb room (length (listingOf s)) short) refl;
+      }

@@ -8,12 +8,12 @@ ghost use mathlib.Core.Bool.{cond};
 ghost use Prim.Native.Nat.{ℕ, _+_, _≤_, _<_, _^_};
 ghost use lib.ListN.{length};
 ghost use lib.Dec.{eqb};
-ghost use Rattle.stored.specs.Layout.{layoutOf, recordIn};
+ghost use Rattle.stored.specs.Layout.{headerOf, recordIn};
 ghost use Rattle.check_refusals.specs.Tables.{tablesOf};
 ghost use Rattle.check_refusals.specs.Check.{checkOf};
 ghost use Rattle.list_lines.specs.Lines.{lineRoom, refusedLine, headingLine, leafLine};
-ghost use Rattle.list_service.specs.Listing.{judgedLines, textOf, ListOutcomeIs};
-ghost use Rattle.list_service.specs.Putting.{TextPut, leafText, leavesText, ListingPut};
+ghost use Rattle.list_service.specs.Listing.{leafLines, judgedLines, textOf, ListOutcomeIs};
+ghost use Rattle.list_service.specs.Putting.{TextPut, leafText, ListingPut};
 
 // What list returns: a refusal's number or 0, and how long the text is that the buffer holds.
 #[repr(C)]
@@ -74,8 +74,8 @@ fn put_record(out: &mut [u8], at: usize, mesh: &[u8], l: Layout, n: usize) -> us
 
 // "then each leaf in rising record number"
 fn put_leaves(out: &mut [u8], at: usize, mesh: &[u8], h: Header) -> usize
-    requires { ⌜ at ≤ lineRoom ⌝ }
-    ensures { λ r. ⌜ TextPut (now (out .entry)) at (leavesText (recordIn (layoutOf h) (now (mesh .entry)) (now (mesh .entry))) (h .records)) (now (out .exit)) r ⌝ }
+    requires { ⌜ (at ≤ lineRoom) × (h ≡ headerOf (now mesh)) ⌝ }
+    ensures { λ r. ⌜ TextPut (now (out .entry)) at (textOf (leafLines (tablesOf (now (mesh .entry))) (h .records))) (now (out .exit)) r ⌝ }
 {
     let l = stored::layout_of(h);
     let count = h.records as usize;
@@ -102,7 +102,7 @@ fn put_judged(out: &mut [u8], mesh: &[u8], report: Report) -> usize
 }
 
 // The mesh's own number, and how long the whole listing is; it is put as far as there is room.
-fn put_listing(mesh: &[u8], out: &mut [u8]) -> Listed
+fn put_listing(out: &mut [u8], mesh: &[u8]) -> Listed
     ensures { λ r. ⌜ ListingPut (now (mesh .entry)) (now (out .entry)) (now (out .exit)) r ⌝ }
 {
     if stored::LARGEST < mesh.len() {
@@ -131,7 +131,7 @@ pub fn list(mesh: &[u8], out: &mut [u8]) -> Listed
     ensures { λ r. ⌜ ListOutcomeIs (now (mesh .entry)) (length (now (out .entry))) r (now (out .exit)) ⌝ }
 {
     slices_written::clear(out);
-    let whole = put_listing(mesh, out);
+    let whole = put_listing(out, mesh);
     if (out.len() as u64) < whole.length {
         slices_written::clear(out);
         return Listed {

@@ -14,8 +14,10 @@ use Rattle.check_refusals.specs.Check.{CheckOutcomeIs}
 use Rattle.check_refusals.specs.Rows.{report-number}
 use Rattle.build_service.specs.Build.{BuildOutcomeIs}
 use Rattle.refine_service.specs.Refine.{RefineOutcomeIs}
+use Rattle.list_service.specs.declared.Listed.{Listed}
+use Rattle.list_service.specs.Listing.{ListOutcomeIs}
 use Rattle.demands.specs.Words.{I16, fullSize, StoredMesh, Figures, ArgumentTypes, BuildAccepts, BuiltMesh, RightSelectionLength, RightSelectionMark, GoodFor, LeastOrFullFrom}
-use Rattle.demands.specs.Demand1.{CheckOutcome, BuildOutcome, RefineOutcome, check-outcome, build-outcome, refine-outcome}
+use Rattle.demands.specs.Demand1.{CheckOutcome, BuildOutcome, RefineOutcome, ListOutcome, check-outcome, build-outcome, refine-outcome, list-outcome}
 use Rattle.demands.specs.Demand2.{ClosedFits, closedBytes, demand-2}
 use Rattle.demands.specs.Demand3.{demand-3, another-job, another-round, accepted-good}
 use Rattle.face_to_face.specs.Words.{FaceToFace}
@@ -100,3 +102,12 @@ refine-promised mesh selection room number out bytes is =
       least-or-full = λ x good full-size. demand-3 .least-or-full mesh x selection good room full-size;
       meets = refined-meets mesh selection bytes room;
     })
+
+-- ---- list
+
+pub record ListPromise (mesh : List ℕ) (room : ℕ) (r : Listed) (out : List ℕ) : Type 0 where
+  -- demand 1
+  pub outcome : ListOutcome mesh room r out
+
+pub list-promised : (mesh : List ℕ) (room : ℕ) (r : Listed) (out : List ℕ) → Bytes mesh → ListOutcomeIs mesh room r out → ListPromise mesh room r out
+list-promised mesh room r out bytes is = record { outcome = list-outcome mesh bytes room r out is }

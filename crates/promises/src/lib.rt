@@ -1,9 +1,10 @@
 // What the user asked, as contracts: for each C function of `station` one function that calls it and ensures the demands of its answer, for every input
 // and with no hypothesis left. Nothing here is linked.
 use check_refusals::Report;
+use list_service::Listed;
 ghost use lib.ListN.{length};
 ghost use Rattle.demands.specs.Words.{I16};
-ghost use Rattle.promises.specs.Promises.{EachI16, CheckPromise, BuildPromise, RefinePromise};
+ghost use Rattle.promises.specs.Promises.{EachI16, CheckPromise, BuildPromise, RefinePromise, ListPromise};
 
 pub fn check(mesh: &[u8]) -> Report
     ensures { λ r. ⌜ CheckPromise (now (mesh .entry)) r ⌝ }
@@ -33,4 +34,10 @@ pub fn refine<'a>(mesh: &'a [u8], selection: &'a [u8], out: &mut [u8]) -> u32
     ensures { λ r. ⌜ RefinePromise (now (mesh .entry)) (now (selection .entry)) (length (now (out .entry))) r (now (out .exit)) ⌝ }
 {
     station::tmb_refine(mesh, selection, out)
+}
+
+pub fn list(mesh: &[u8], out: &mut [u8]) -> Listed
+    ensures { λ r. ⌜ ListPromise (now (mesh .entry)) (length (now (out .entry))) r (now (out .exit)) ⌝ }
+{
+    station::tmb_list(mesh, out)
 }

@@ -6,12 +6,11 @@ use mathlib.Core.List.{_++_}
 use native.Mathlib.Omega.{arith}
 use denote.Ref.{now}
 use Rattle.laws.specs.Lists.{Bytes}
-use Rattle.stored.specs.Layout.{layoutOf, recordIn}
 use Rattle.check_refusals.specs.Tables.{tablesOf}
 use Rattle.list_lines.specs.Lines.{headingLine}
-use Rattle.list_service.specs.Listing.{textOf, judgedLines}
+use Rattle.list_service.specs.Listing.{leafLines, textOf, judgedLines}
 use Rattle.list_service.specs.Lengths.{heading-fits}
-use Rattle.list_service.specs.Putting.{put-then, leavesText, judged-refused, judged-listed}
+use Rattle.list_service.specs.Putting.{put-then, judged-refused, judged-listed}
 use Rattle.list_service.proofs.put_judged.Statement.{statement}
 use Rattle.list_service.proofs.put_judged.Tie as tie
 
@@ -32,7 +31,7 @@ unfolding tablesOf
 put-leaves-requires c κs =
     let a = c .before .before .before .before .before .before .before .before .before .before .args in
     let bytes : Bytes (now (a .mesh)) = record { byte = λ k. omega (arith, c .before .before .before .before .before .before .before .before .shared-slice-known .given k) } in
-    omega (arith, c .before .before .before .put-heading .ensures .place, rw (← c .before .before .before .before .before .header-of .ensures) at (heading-fits (now (a .mesh)) bytes (a .report) (c .before .before .before .before .before .before .before .before .before .before .pre) (c .before .before .before .before .before .before .if1 .left)))
+    (omega (arith, c .before .before .before .put-heading .ensures .place, rw (← c .before .before .before .before .before .header-of .ensures) at (heading-fits (now (a .mesh)) bytes (a .report) (c .before .before .before .before .before .before .before .before .before .before .pre) (c .before .before .before .before .before .before .if1 .left))), c .before .before .before .before .before .header-of .ensures)
 
 returns-2 : tie.Need-returns-2
 unfolding tablesOf
@@ -41,8 +40,8 @@ returns-2 c =
     let mesh = now (a .mesh) in
     let h = c .before .before .before .before .before .before .before .before .header-of .result in
     let header = c .before .before .before .before .before .before .before .before .header-of .ensures in
-    let text : headingLine h (a .report) ++ leavesText (recordIn (layoutOf h) mesh mesh) (h .records) ≡ textOf (judgedLines (tablesOf mesh) (a .report)) =
-    (λ i. headingLine (header i) (a .report) ++ leavesText (recordIn (layoutOf (header i)) mesh mesh) (header i .records)) ∙ sym (judged-listed (tablesOf mesh) (a .report) (c .before .before .before .before .before .before .before .before .before .if1 .left)) in
+    let text : headingLine h (a .report) ++ textOf (leafLines (tablesOf mesh) (h .records)) ≡ textOf (judgedLines (tablesOf mesh) (a .report)) =
+    (λ i. headingLine (header i) (a .report) ++ textOf (leafLines (tablesOf mesh) (header i .records))) ∙ sym (judged-listed (tablesOf mesh) (a .report) (c .before .before .before .before .before .before .before .before .before .if1 .left)) in
     rw (← text) (put-then (c .before .before .before .before .before .before .put-heading .ensures) (c .before .before .put-leaves .ensures))
 
 pub put-judged-spec : {M : Type 1} → statement M

@@ -2,19 +2,21 @@
 -- Assumes nothing.
 use borrow.Author.Needs.{needs}
 use Prim.Native.Nat.{_-_, _^_, _≤_, _<_}
-use mathlib.Core.Path.{_≡_}
+use mathlib.Core.Path.{_≡_, _∙_, ap}
 use native.Mathlib.Nat.{le-antisymm}
 use native.Mathlib.Omega.{arith}
 use denote.Ref.{now}
 use Rattle.laws.specs.Lists.{Bytes}
-use Rattle.stored.specs.Layout.{layoutOf, recordIn}
+use Rattle.stored.specs.Layout.{headerOf, layoutOf}
 use Rattle.stored.specs.Fitting.{record-fits}
-use Rattle.list_service.specs.Putting.{TextPut, put-none, put-then, put-length, leavesText, leaves-none, leaves-next, leaves-long}
+use Rattle.check_refusals.specs.Tables.{tables, tablesOf}
+use Rattle.list_service.specs.Listing.{leafLines, textOf}
+use Rattle.list_service.specs.Putting.{TextPut, put-none, put-then, put-length, leaves-none, leaves-next, leaves-long}
 use Rattle.list_service.proofs.put_leaves.Statement.{statement}
 use Rattle.list_service.proofs.put_leaves.Tie as tie
 
 abbrev Inv-loop : tie.InvT-loop
-Inv-loop out₀ at mesh l count next₀ n₀ out next n = (n ≤ count) × TextPut out₀ at (leavesText (recordIn l mesh mesh) n) out next
+Inv-loop out₀ at mesh l count next₀ n₀ out next n = (n ≤ count) × TextPut out₀ at (textOf (leafLines (tables (headerOf mesh) l mesh mesh) n)) out next
 
 abbrev μ-loop : tie.MeasureT-loop
 μ-loop out₀ at mesh l count next₀ n₀ out next n = count - n
@@ -24,14 +26,13 @@ loop-holds c = (omega arith, rw (leaves-none _) (put-none _ _))
 
 put-record-requires : tie.Need-put-record-requires Inv-loop μ-loop
 put-record-requires c κs =
-    let a = c .before .before .before .before .before .before .before .args in
-    let mesh = now (a .mesh) in
+    let mesh = now (c .before .before .before .before .before .before .before .args .mesh) in
     let l = c .before .before .before .before .layout-of .result in
     let loop = c .before .before .loop in
     let bytes : Bytes mesh = record { byte = λ k. omega (arith, c .before .before .before .before .before .shared-slice-known .given k) } in
-    let long = leaves-long (recordIn l mesh mesh) (record-fits l mesh mesh bytes bytes) (loop .n) in
     let few : loop .n < 10 ^ 10 = omega (arith, c .before .loop-test .taken, c .before .before .before .struct-known .given) in
-    (few, omega (arith, c .before .before .before .before .before .before .before .pre, loop .inv .1 .place, long (omega arith), c .before .loop-test .taken, c .before .before .before .struct-known .given))
+    let long = leaves-long (tables (headerOf mesh) l mesh mesh) (record-fits l mesh mesh bytes bytes) (loop .n) (omega arith) in
+    (few, omega (arith, c .before .before .before .before .before .before .before .pre .0, loop .inv .1 .place, long))
 
 loop-again : tie.Need-loop-again Inv-loop μ-loop
 loop-again c = (omega arith, rw (leaves-next _ _) (put-then (c .before .before .before .before .before .loop .inv .1) (c .before .before .put-record .ensures)))
@@ -40,11 +41,14 @@ same-length : tie.Need-same-length Inv-loop μ-loop
 same-length c = put-length (c .before .loop .inv .1)
 
 returns : tie.Need-returns Inv-loop μ-loop
+unfolding tablesOf
 returns c =
-    let mesh = now (c .before .before .before .before .before .before .args .mesh) in
+    let a = c .before .before .before .before .before .before .args in
+    let mesh = now (a .mesh) in
     let loop = c .before .loop in
-    let all : leavesText (recordIn (c .before .before .before .layout-of .result) mesh mesh) (loop .n) ≡ leavesText (recordIn (layoutOf (c .before .before .before .before .before .before .args .h)) mesh mesh) (c .before .before .before .before .before .before .args .h .records) =
-    λ i. leavesText (recordIn (c .before .before .before .layout-of .ensures i) mesh mesh) (le-antisymm (loop .inv .0) (c .loop-test .left) i) in
+    let layout = c .before .before .before .layout-of .ensures ∙ ap layoutOf (c .before .before .before .before .before .before .pre .1) in
+    let all : textOf (leafLines (tables (headerOf mesh) (c .before .before .before .layout-of .result) mesh mesh) (loop .n)) ≡ textOf (leafLines (tablesOf mesh) (a .h .records)) =
+    λ i. textOf (leafLines (tables (headerOf mesh) (layout i) mesh mesh) (le-antisymm (loop .inv .0) (c .loop-test .left) i)) in
     rw (← all) (loop .inv .1)
 
 pub put-leaves-spec : {M : Type 1} → statement M
