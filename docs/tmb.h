@@ -103,11 +103,11 @@ uint32_t tmb_refine(const uint8_t *mesh, size_t mesh_length, const uint8_t *sele
 /*
  * What list gives back.
  *
- * number is 0 where the whole listing of an accepted mesh is written; else
+ * number is 0 where an accepted mesh is listed; else
  *
  *    1 to 10, of the mesh: what check gives for it, in the words above; input longer than the
  *       largest mesh, 62,484 bytes, is refused with 1 here
- *   20  the output buffer is shorter than the listing
+ *   20  of an accepted mesh: the output buffer is shorter than the listing
  */
 struct tmb_listed {
     uint64_t number;
@@ -116,10 +116,10 @@ struct tmb_listed {
 };
 
 /*
- * List writes what a stored mesh, the mesh_length bytes at mesh, which are only read, is listed with:
- * for an accepted mesh one heading line, then each leaf in rising record number; for a refused one
- * the one line `refused ` and the number. Every line ends with a line feed. Every byte string gets an
- * answer. A buffer of 393,344 bytes holds any listing and never gets 20.
+ * List writes the listing of a stored mesh, the mesh_length bytes at mesh, which are only read: of an
+ * accepted mesh one heading line, then each leaf in rising record number; of a refused one the one
+ * line `refused ` and the number. Every line ends with a line feed. Every byte string gets an answer.
+ * A buffer of 393,344 bytes holds any listing and never gets 20.
  *
  * All room bytes at out are written: the listing, also of a refused mesh, and zeros past it; where
  * the buffer is shorter than the listing it is zero throughout. It does not overlap the mesh. No

@@ -9,7 +9,10 @@
 -- - `Cuts count`: a set of cuts of a base of so many pieces, by `has`: a piece is cut only after its parent. `There`: a base piece, or a child of a cut
 --   one. `Leaf`: there, and not cut. `CutsWithin C X`: every cut of C is one of X. `NoneHangs`: no edge of a leaf has its midpoint made by a cut
 --   (`cuts/specs/Sets`). `CutList`, `LeafList`, `MadeList`: a list of all cuts, leaves, made vertices, each once (`cuts/specs/Count`).
--- - `headerOf`, `meshBytes`: document 01's layout of the bytes (`stored/specs/Layout`).
+-- - `OnGrid`: a multiple of 32 from -32,736 to 32,736; `EdgeOf i e`: e is an edge of the face without slot i (`check_meaning/specs/Accepted`). `Midpoint`: its
+--   double is the sum, in each coordinate (`grid/specs/Corners`); `sixfoldOf`: the absolute determinant (`grid_volume/specs/Volume`); `markedAt`: a face's
+--   mark, named by its midpoint, and `SameFace`: the same three corners, over names (`cuts_names/specs/Base`).
+-- - `meshBytes`, `selectionOf`, `namedIn`: document 01's layout of a mesh's and a selection's bytes (`stored/specs/Layout`).
 use mathlib.Core.Path.{_≡_}
 use mathlib.Core.Logic.{_↔_, _≢_, _⊎_}
 use mathlib.Core.Bool.{true, false, cond, false≢true}
