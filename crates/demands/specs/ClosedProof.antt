@@ -3,7 +3,7 @@ use mathlib.Core.Path.{_≡_, sym, ap, subst, _∙_}
 use mathlib.Core.Bool.{Bool, true, false, _||_}
 use mathlib.Core.Logic.{_≢_, _⊎_, _↔_, inl, inr, ⊎-elim}
 use mathlib.Core.List.{List, _++_}
-use Prim.Native.Nat.{ℕ, suc, _+_, _-_, _*_, _/_, _≤_, _<_, max}
+use Prim.Native.Nat.{ℕ, _-_, _≤_, _<_}
 use native.Mathlib.Omega.{arith}
 use lib.Dec.{ltb}
 use lib.ListN.{length, replicate}
@@ -19,18 +19,18 @@ use Rattle.refine_pass.specs.Passes.{exceeds}
 use Rattle.refine_service.specs.Refine.{closed, resultOf, refineNumber, refineBytes}
 use Rattle.refine_selection.specs.Selected.{anotherJob, anotherRound}
 use Rattle.refine_meaning.specs.Answer.{refused-bytes, accepted-bytes, another-job-refused, another-round-refused}
-use Rattle.cuts_names.specs.Pieces.{Node, generation}
+use Rattle.cuts_names.specs.Pieces.{Node}
 use Rattle.cuts.specs.Sets.{Cuts}
-use Rattle.demands.specs.Words.{BaseMesh, Fits, fullSize, StoredMesh, RightSelectionLength, RightSelectionMark, SelectedPiece, Closes, Refined, GoodFor, RefinedFrom, LeastOrFullFrom}
-use Rattle.demands.specs.AcceptedOf.{accepted-of-stored}
+use Rattle.cuts.specs.Count.{LeafList}
+use Rattle.demands.specs.Words.{BaseMesh, Fits, fullSize, StoredMesh, sixfoldAt, sumOf, RightSelectionLength, RightSelectionMark, SelectedPiece, Closes, GoodFor}
 use Rattle.demands.specs.SetOf.{grown-cuts, grown-not-fits}
 use Rattle.demands.specs.Selections.{length-passes, mark-passes, rule13-holds, rule14-holds}
 use Rattle.demands.specs.RefineNumbers.{good-exactly, good-number, good-19-exceeds, refine-accepts-all, used-gets-14}
-use Rattle.demands.specs.StoredFigures.{stored-figures, stored-volume}
+use Rattle.demands.specs.StoredFigures.{stored-volume}
 use Rattle.demands.specs.FromStored as From
 use Rattle.demands.specs.Outcomes.{closed-as-long, refined-within}
-use Rattle.demands.specs.Inside.{after, set, set-inside, set-one-mark, set-no-deeper, set-closes, set-none-fewer}
-use Rattle.demands.specs.Result.{is-closed, base-vertices, result-stores, result-right, result-mesh}
+use Rattle.demands.specs.Inside.{after, set, set-inside, set-closes}
+use Rattle.demands.specs.Result.{is-closed, base-vertices, result-right, result-mesh}
 use Rattle.cuts.specs.LinkSets.{cutNodes}
 use Rattle.demands.specs.Link.{link}
 
@@ -44,16 +44,16 @@ beyond m e =
     (either (ltb (limits .vertices) (allVertices m)))
 
 module _ (s : List ℕ) (x : StoredMesh s) (selection : List ℕ) (good : GoodFor x selection) (room : ℕ) where
-  abbrev b : BaseMesh
+  abbrev pub b : BaseMesh
   b = x .base
 
-  abbrev selected : Node → Type 0
+  abbrev pub selected : Node → Type 0
   selected = SelectedPiece (x .stores .numbers) selection
 
-  abbrev t : Check.Tables
+  abbrev pub t : Check.Tables
   t = after s x selection good
 
-  abbrev D : Cuts (b .pieces)
+  abbrev pub D : Cuts (b .pieces)
   D = set s x selection good
 
   accepted : checkNumber s ≡ 0
@@ -67,48 +67,42 @@ module _ (s : List ℕ) (x : StoredMesh s) (selection : List ℕ) (good : GoodFo
   none-fits : exceeds limits (t .header) ≡ true → (X : Cuts (b .pieces)) → Closes b (x .cuts) selected X → Fits limits b X → ⊥
   none-fits e X closes = grown-not-fits t b D (From.made s x selection good .grown) (base-vertices s x selection good) limits (beyond t e) X (set-inside s x selection good X closes)
 
-  module _ (few : exceeds limits (t .header) ≡ false) where
-    closes : Closes b (x .cuts) selected D
-    closes = set-closes s x selection good few (cutNodes (link t)) (grown-cuts t b D (From.made s x selection good .grown))
+  -- What is accepted, or what something that closes fits, does not exceed them.
+  pub accepted-few : refineNumber s selection room ≡ 0 → exceeds limits (t .header) ≡ false
+  accepted-few e = ⊎-elim (λ over. absurd (omega (arith, e, is-19 .1 over))) (λ few. few) (either (exceeds limits (t .header)))
 
-    handed-back : refineNumber s selection room ≡ 0 → Refined (x .job) (x .round) b (x .cuts) selected (refineBytes s selection room) room
-    handed-back e =
-        record {
-          set = D;
-          mesh = meshBytes (resultOf t);
-          fits-room = subst (λ (m : Check.Tables). length (meshBytes (resultOf m)) ≤ room) (is-closed s x selection good) (refined-within s selection room e);
-          written = subst (λ (m : Check.Tables). refineBytes s selection room ≡ meshBytes (resultOf m) ++ replicate (room - length (meshBytes (resultOf m))) 0) (is-closed s x selection good) (accepted-bytes s selection room e);
-          stores = result-stores s x selection good;
-          right = result-right s x selection good few;
-          one-of-them = closes;
-          inside = set-inside s x selection good;
-          none-fewer = set-none-fewer s x selection good (closes .cuts) (closes .cuts-listed);
-          one-mark = set-one-mark s x selection good;
-          volume = λ before after p q. stored-volume (meshBytes (resultOf t)) (result-mesh s x selection good few) after q ∙ sym (stored-volume s x before p);
-          no-deeper = set-no-deeper s x selection good;
-        }
+  pub closes : exceeds limits (t .header) ≡ false → Closes b (x .cuts) selected D
+  closes few = set-closes s x selection good few (cutNodes (link t)) (grown-cuts t b D (From.made s x selection good .grown))
 
-  refined-least : refineNumber s selection room ≡ 0 → RefinedFrom x selection (refineBytes s selection room) room
-  refined-least e = ⊎-elim (λ over. absurd (omega (arith, e, is-19 .1 over))) (λ few. handed-back few e) (either (exceeds limits (t .header)))
+  pub full-exactly : (refineNumber s selection room ≡ 19) ↔ ((X : Cuts (b .pieces)) → Closes b (x .cuts) selected X → Fits limits b X → ⊥)
+  full-exactly = (
+    λ e. none-fits (is-19 .0 e),
+    λ none. ⊎-elim (λ e. is-19 .1 e) (λ few. absurd (none D (closes few) (result-right s x selection good few .fits))) (either (exceeds limits (t .header))),
+  )
 
-  pub closed-proof : fullSize ≤ room → LeastOrFullFrom x selection (refineNumber s selection room) (refineBytes s selection room) room
-  closed-proof full-size =
-      record {
-        accepted-or-full = good-number s selection accepted (From.earns-none s x selection good) room full-size;
-        full = (
-          λ e. none-fits (is-19 .0 e),
-          λ none. ⊎-elim (λ e. is-19 .1 e) (λ few. absurd (none D (closes few) (result-right s x selection good few .fits))) (either (exceeds limits (t .header))),
-        );
-        full-zeros = λ e. refused-bytes s selection room (ne-eqb (refineNumber s selection room) 0 (λ z. omega (arith, z, e)));
-        refined = refined-least;
-      }
+  pub zero-or-full : fullSize ≤ room → (refineNumber s selection room ≡ 0) ⊎ (refineNumber s selection room ≡ 19)
+  zero-or-full = good-number s selection accepted (From.earns-none s x selection good) room
 
--- What is accepted is so for a buffer of any length: full size is needed for 0 or 19 alone.
+  pub full-clear : refineNumber s selection room ≡ 19 → refineBytes s selection room ≡ replicate room 0
+  full-clear e = refused-bytes s selection room (ne-eqb (refineNumber s selection room) 0 (λ z. omega (arith, z, e)))
+
+  -- The mesh that is written.
+  abbrev pub result : List ℕ
+  result = meshBytes (resultOf t)
+
+  module _ (e : refineNumber s selection room ≡ 0) where
+    pub result-fits : length result ≤ room
+    result-fits = subst (λ (m : Check.Tables). length (meshBytes (resultOf m)) ≤ room) (is-closed s x selection good) (refined-within s selection room e)
+
+    pub result-written : refineBytes s selection room ≡ result ++ replicate (room - length result) 0
+    result-written = subst (λ (m : Check.Tables). refineBytes s selection room ≡ meshBytes (resultOf m) ++ replicate (room - length (meshBytes (resultOf m))) 0) (is-closed s x selection good) (accepted-bytes s selection room e)
+
+    pub result-volume : (before after : List Node) → LeafList (x .cuts) before → LeafList D after → sumOf (sixfoldAt b) after ≡ sumOf (sixfoldAt b) before
+    result-volume before after p q = stored-volume result (result-mesh s x selection good (accepted-few e)) after q ∙ sym (stored-volume s x before p)
+
+-- What is accepted has a good selection, whatever the buffer's length.
 pub accepted-good : (s : List ℕ) (x : StoredMesh s) (selection : List ℕ) (room : ℕ) → refineNumber s selection room ≡ 0 → GoodFor x selection
 accepted-good s x selection room e = From.good-selection s x selection (refine-accepts-all s selection room .0 e .good)
-
-pub any-room : (s : List ℕ) (x : StoredMesh s) (selection : List ℕ) (room : ℕ) → refineNumber s selection room ≡ 0 → RefinedFrom x selection (refineBytes s selection room) room
-any-room s x selection room e = refined-least s x selection (accepted-good s x selection room e) room e
 
 -- From a stored mesh and a good selection refine accepts exactly where the closed result is within the limits and the buffer.
 pub good-accepted : (s : List ℕ) (x : StoredMesh s) (selection : List ℕ) → GoodFor x selection → (room : ℕ) →
@@ -128,31 +122,12 @@ good-accepted s x selection good room = (
 
 -- ---- what follows
 
--- What is handed back is a stored mesh.
-abbrev pub mesh-of : (job round : ℕ) (b : BaseMesh) (C : Cuts (b .pieces)) (selected : Node → Type 0) (bytes : List ℕ) (room : ℕ) (r : Refined job round b C selected bytes room) → StoredMesh (r .mesh)
-mesh-of job round b C selected bytes room r = record { job = job; round = round + 1; base = b; cuts = r .set; right = r .right; stores = r .stores }
-
--- What refine writes, check accepts.
-pub result-accepted : (job round : ℕ) (b : BaseMesh) (C : Cuts (b .pieces)) (selected : Node → Type 0) (bytes : List ℕ) (room : ℕ) (r : Refined job round b C selected bytes room) → checkOf (r .mesh) .number ≡ 0
-result-accepted job round b C selected bytes room r = report-number (r .mesh) ∙ accepts-exactly (r .mesh) .1 (accepted-of-stored (r .mesh) (mesh-of job round b C selected bytes room r))
-
 -- A good selection is one whose number is none of 11 to 18, whatever the buffer.
 pub earned : (s : List ℕ) (x : StoredMesh s) (selection : List ℕ) →
     GoodFor x selection ↔ ((room : ℕ) → 11 ≤ refineNumber s selection room → refineNumber s selection room ≤ 18 → ⊥)
 earned s x selection =
     let both = good-exactly s selection (accepts-exactly s .1 (From.accepted s x)) in
     (λ good. both .0 (From.earns-none s x selection good), λ none. From.good-selection s x selection (both .1 none))
-
--- The least multiple of three that reaches the depth before and the selected pieces' children.
-pub least-multiple : (s : List ℕ) (x : StoredMesh s) (selected : Node → Type 0) (bytes : List ℕ) (room : ℕ) (r : Refined (x .job) (x .round) (x .base) (x .cuts) selected bytes room) (children : ℕ) → ((n : Node) → selected n → suc (generation n) ≤ children) →
-    checkOf (r .mesh) .deepest ≤ 3 * ((max (checkOf s .deepest) children + 2) / 3)
-least-multiple s x selected bytes room r children kids =
-    let before = stored-figures s x in
-    let after = stored-figures (r .mesh) (mesh-of (x .job) (x .round) (x .base) (x .cuts) selected bytes room r) in
-    let (n, leaf, is) = after .deepest-reached in
-    let k = (max (checkOf s .deepest) children + 2) / 3 in
-    let reach = r .no-deeper k (λ m l. let d = before .deepest-most m l in omega (arith, d)) (λ m c. let d = kids m c in omega (arith, d)) n leaf in
-    omega (arith, is, reach)
 
 -- "another job", "another round": a whole selection of another job gets 13, whatever else it says, and one of this job and another round 14.
 module _ (s : List ℕ) (x : StoredMesh s) (selection : List ℕ) (room : ℕ) (whole : RightSelectionLength selection) (marked : RightSelectionMark selection) where

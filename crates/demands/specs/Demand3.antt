@@ -3,44 +3,134 @@
 -- full” is answered exactly when none fits. Shared faces carry one mark, the summed volume is unchanged, and no piece is deeper than the least
 -- multiple of three that reaches both the deepest piece before and the children of the selected ones."
 --
--- The words are in `Words`: `GoodSelection`, `Closes` (the sets that close), `Refined` and `LeastOrFull` (what is handed back, clause by clause).
+-- The words are in `Words`: `GoodSelection`, `Closes` (the sets that close).
 use mathlib.Core.Path.{_≡_}
-use mathlib.Core.Logic.{_↔_, _≢_}
-use mathlib.Core.List.{List}
-use Prim.Native.Nat.{ℕ, suc, _+_, _*_, _/_, _≤_, _<_, max}
-use Rattle.stored.specs.Layout.{headerOf, selectionOf}
-use Rattle.cuts_names.specs.Pieces.{Node, generation}
-use Rattle.demands.specs.Words.{fullSize, StoredMesh, RightSelectionLength, RightSelectionMark, SelectedPiece, GoodFor, RefinedFrom, LeastOrFullFrom}
+use mathlib.Core.Logic.{_↔_, _≢_, _⊎_}
+use mathlib.Core.List.{List, _++_}
+use Prim.Native.Nat.{ℕ, suc, _+_, _-_, _*_, _/_, _≤_, _<_, max}
+use native.Mathlib.Omega.{arith}
+use lib.ListN.{length, replicate}
+use Rattle.stored.specs.Layout.{limits, headerOf, selectionOf}
+use Rattle.cuts_names.specs.Base.{SameFace, markedAt}
+use Rattle.cuts_names.specs.Pieces.{Node, generation, pieceAt}
+use Rattle.cuts.specs.Sets.{Cuts, Leaf, CutsWithin}
+use Rattle.cuts.specs.Count.{LeafList}
+use Rattle.demands.specs.Words.{BaseMesh, named, Fits, fullSize, Stores, RightSet, StoredMesh, sixfoldAt, sumOf, RightSelectionLength, RightSelectionMark, SelectedPiece, Closes, GoodFor}
 use Rattle.demands.specs.Services.{Services, ours}
+use Rattle.demands.specs.Inside.{set, set-inside, set-one-mark, set-no-deeper, set-none-fewer}
+use Rattle.demands.specs.Result.{result-stores, result-right}
 use Rattle.demands.specs.ClosedProof as Proof
+use Rattle.demands.specs.Demand2.{demand-2}
+
+-- ---- what is handed back
+
+-- What refine hands back where it accepts: the bytes store a set D of cuts of the same base, with the same job and the next round.
+pub record Refined (job round : ℕ) (b : BaseMesh) (C : Cuts (b .pieces)) (selected : Node → Type 0) (bytes : List ℕ) (room : ℕ) : Type 0 where
+  pub set : Cuts (b .pieces)
+  pub mesh : List ℕ
+  pub fits-room : length mesh ≤ room
+  pub written : bytes ≡ mesh ++ replicate (room - length mesh) 0
+  pub stores : Stores mesh job (round + 1) b set
+  -- no hanging edge, within 01's limits
+  pub right : RightSet b set
+  -- "Ours is one of them"
+  pub one-of-them : Closes b C selected set
+  -- "and is inside all of them"
+  pub inside : (X : Cuts (b .pieces)) → Closes b C selected X → CutsWithin set X
+  -- "so none has fewer pieces"
+  pub none-fewer : (X : Cuts (b .pieces)) → Closes b C selected X → (ours theirs : List Node) → LeafList set ours → LeafList X theirs → length ours ≤ length theirs
+  -- "Shared faces carry one mark": `markedAt` is the midpoint of the marked edge, by which the edge is named
+  pub one-mark : (n m : Node) → Leaf set n → Leaf set m → (i j : ℕ) → i < 4 → j < 4 → SameFace (pieceAt (named b) n) i (pieceAt (named b) m) j →
+      markedAt (pieceAt (named b) n) i ≡ markedAt (pieceAt (named b) m) j
+  -- "the summed volume is unchanged"
+  pub volume : (before after : List Node) → LeafList C before → LeafList set after → sumOf (sixfoldAt b) after ≡ sumOf (sixfoldAt b) before
+  -- "no piece is deeper than the least multiple of three that reaches both the deepest piece before and the children of the selected ones": whatever
+  -- multiple reaches both reaches every piece
+  pub no-deeper : (k : ℕ) → ((n : Node) → Leaf C n → generation n ≤ 3 * k) → ((n : Node) → selected n → suc (generation n) ≤ 3 * k) → (n : Node) → Leaf set n → generation n ≤ 3 * k
+
+-- Demand 3, of refine's number and bytes.
+pub record LeastOrFull (job round : ℕ) (b : BaseMesh) (C : Cuts (b .pieces)) (selected : Node → Type 0) (number : ℕ) (bytes : List ℕ) (room : ℕ) : Type 0 where
+  pub accepted-or-full : (number ≡ 0) ⊎ (number ≡ 19)
+  -- "“tables full” is answered exactly when none fits"
+  pub full : (number ≡ 19) ↔ ((X : Cuts (b .pieces)) → Closes b C selected X → Fits limits b X → ⊥)
+  pub full-zeros : number ≡ 19 → bytes ≡ replicate room 0
+  pub refined : number ≡ 0 → Refined job round b C selected bytes room
+
+-- The same of a stored mesh x and a selection: what is accepted; number and bytes.
+abbrev pub RefinedFrom : {s : List ℕ} → StoredMesh s → List ℕ → List ℕ → ℕ → Type 0
+RefinedFrom x selection bytes room = Refined (x .job) (x .round) (x .base) (x .cuts) (SelectedPiece (x .stores .numbers) selection) bytes room
+
+abbrev pub LeastOrFullFrom : {s : List ℕ} → StoredMesh s → List ℕ → ℕ → List ℕ → ℕ → Type 0
+LeastOrFullFrom x selection number bytes room = LeastOrFull (x .job) (x .round) (x .base) (x .cuts) (SelectedPiece (x .stores .numbers) selection) number bytes room
+
+-- ---- the demand
 
 pub record MeetsDemand3 (S : Services) : Type 0 where
-  -- The demand, for every stored mesh, every good selection and every full-size buffer.
+  -- For every stored mesh, every good selection and every full-size buffer.
   pub least-or-full : (s : List ℕ) (x : StoredMesh s) (selection : List ℕ) → GoodFor x selection → (room : ℕ) → fullSize ≤ room →
       LeastOrFullFrom x selection (S .refine s selection room) (S .refineOut s selection room) room
 
+refined-least : (s : List ℕ) (x : StoredMesh s) (selection : List ℕ) → GoodFor x selection → (room : ℕ) → ours .refine s selection room ≡ 0 → RefinedFrom x selection (ours .refineOut s selection room) room
+refined-least s x selection good room e =
+    let few = Proof.accepted-few s x selection good room e in
+    let closes = Proof.closes s x selection good room few in
+    record {
+      set = set s x selection good;
+      mesh = Proof.result s x selection good room;
+      fits-room = Proof.result-fits s x selection good room e;
+      written = Proof.result-written s x selection good room e;
+      stores = result-stores s x selection good;
+      right = result-right s x selection good few;
+      one-of-them = closes;
+      inside = set-inside s x selection good;
+      none-fewer = set-none-fewer s x selection good (closes .cuts) (closes .cuts-listed);
+      one-mark = set-one-mark s x selection good;
+      volume = Proof.result-volume s x selection good room e;
+      no-deeper = set-no-deeper s x selection good;
+    }
+
 -- Ours meet it.
 pub demand-3 : MeetsDemand3 ours
-demand-3 = record { least-or-full = Proof.closed-proof }
+demand-3 =
+    record {
+      least-or-full = λ s x selection good room full-size.
+          record {
+            accepted-or-full = Proof.zero-or-full s x selection good room full-size;
+            full = Proof.full-exactly s x selection good room;
+            full-zeros = Proof.full-clear s x selection good room;
+            refined = refined-least s x selection good room;
+          };
+    }
+
+-- ---- what follows
 
 -- With a buffer of any length, what is accepted is the same: full size is needed only for "0 or 19".
 pub any-room : (s : List ℕ) (x : StoredMesh s) (selection : List ℕ) (room : ℕ) → ours .refine s selection room ≡ 0 → RefinedFrom x selection (ours .refineOut s selection room) room
-any-room = Proof.any-room
+any-room s x selection room e = refined-least s x selection (Proof.accepted-good s x selection room e) room e
 
 -- "a selection that earns none of refusals 11 to 18": a good one is one whose number is none of them, whatever the buffer.
 pub good-exactly : (s : List ℕ) (x : StoredMesh s) (selection : List ℕ) →
     GoodFor x selection ↔ ((room : ℕ) → 11 ≤ ours .refine s selection room → ours .refine s selection room ≤ 18 → ⊥)
 good-exactly = Proof.earned
 
--- What refine writes, check accepts.
+-- What refine writes is a stored mesh again, with the same job and base and the next round: check accepts it.
+abbrev pub result : {s : List ℕ} (x : StoredMesh s) (selection bytes : List ℕ) (room : ℕ) (r : RefinedFrom x selection bytes room) → StoredMesh (r .mesh)
+result x selection bytes room r = record { job = x .job; round = x .round + 1; base = x .base; cuts = r .set; right = r .right; stores = r .stores }
+
 pub accepted-again : (s : List ℕ) (x : StoredMesh s) (selection bytes : List ℕ) (room : ℕ) (r : RefinedFrom x selection bytes room) → ours .check (r .mesh) .number ≡ 0
-accepted-again s x selection = Proof.result-accepted (x .job) (x .round) (x .base) (x .cuts) (SelectedPiece (x .stores .numbers) selection)
+accepted-again s x selection bytes room r = demand-2 .accepted-exactly (r .mesh) .1 (result x selection bytes room r) .1
 
 -- As a number: the least multiple of three that reaches the depth reported before and every selected piece's child.
 pub no-deeper-than : (s : List ℕ) (x : StoredMesh s) (selection bytes : List ℕ) (room : ℕ) (r : RefinedFrom x selection bytes room)
     (children : ℕ) → ((n : Node) → SelectedPiece (x .stores .numbers) selection n → suc (generation n) ≤ children) →
     ours .check (r .mesh) .deepest ≤ 3 * ((max (ours .check s .deepest) children + 2) / 3)
-no-deeper-than s x selection = Proof.least-multiple s x (SelectedPiece (x .stores .numbers) selection)
+no-deeper-than s x selection bytes room r children kids =
+    let before = demand-2 .figures s x in
+    let after = demand-2 .figures (r .mesh) (result x selection bytes room r) in
+    let (n, leaf, is) = after .deepest-reached in
+    let k = (max (ours .check s .deepest) children + 2) / 3 in
+    let reach = r .no-deeper k (λ m l. let d = before .deepest-most m l in omega (arith, d)) (λ m c. let d = kids m c in omega (arith, d)) n leaf in
+    omega (arith, is, reach)
 
 -- "a choice of pieces belongs to one job and one round": a whole selection of another job gets 13 from a stored mesh, and one of another round 14, with any
 -- buffer; so what is accepted is of this job and this round (`accepted-good`).

@@ -15,11 +15,10 @@ use Rattle.refine_meaning.specs.Rows.{K}
 use Rattle.cuts_names.specs.Lists.{both-ways}
 use Rattle.cuts_names.specs.Pieces.{Node}
 use Rattle.cuts.specs.Sets.{Leaf}
-use Rattle.demands.specs.Words.{fullSize, StoredMesh, ArgumentTypes, countIn, SelectedPiece, Closes, GoodFor, RefinedFrom}
+use Rattle.demands.specs.Words.{fullSize, StoredMesh, ArgumentTypes, countIn, SelectedPiece, Closes, GoodFor}
 use Rattle.demands.specs.Services.{Services, ours}
 use Rattle.demands.specs.Demand2.{MeetsDemand2, demand-2}
-use Rattle.demands.specs.Demand3.{MeetsDemand3, demand-3, any-room}
-use Rattle.demands.specs.ClosedProof.{accepted-good, mesh-of}
+use Rattle.demands.specs.Demand3.{RefinedFrom, MeetsDemand3, demand-3, any-room, accepted-good, result}
 use Rattle.demands.specs.WorkedMeshes.{K-types, K-accepts, K-job-7, K-job-8, K-next, none-named, first-named, K-raised, K-raised-again, K-next-cut, K-copied-round, K-raised-round, K-raised-again-round, none-counted, first-counted, K-stored, K-next-stored, K-first-round, K-later-round}
 
 -- The selections are good.
@@ -132,10 +131,6 @@ module _ (S : Services) (m : MeetsDemand2 S) where
   invents-volume s x other = other (reports-ours s x .2)
 
 -- ======== demand 3
-
--- What is handed back is a stored mesh: its set is the one that `Refined` names.
-abbrev result : {s : List ℕ} (x : StoredMesh s) (selection bytes : List ℕ) (room : ℕ) (r : RefinedFrom x selection bytes room) → StoredMesh (r .mesh)
-result x selection = mesh-of (x .job) (x .round) (x .base) (x .cuts) (SelectedPiece (x .stores .numbers) selection)
 
 module _ (S : Services) (m : MeetsDemand3 S) where
   -- Where something that closes fits, it is accepted.

@@ -23,7 +23,6 @@ use Rattle.refine_pass.specs.Law.{within}
 use Rattle.refine_pass.specs.Stays.{base-vertices-stay, job-stays, round-stays}
 use Rattle.refine_service.specs.Refine.{closed, resultOf}
 use Rattle.refine_meaning.specs.Kept.{Keeps, closed-keeps}
-use Rattle.cuts_names.specs.Names as Names
 use Rattle.cuts_names.specs.Names.{mid}
 use Rattle.cuts.specs.Sets.{Cuts}
 use Rattle.cuts.specs.Depth.{there-below}

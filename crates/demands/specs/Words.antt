@@ -10,14 +10,14 @@
 --   one. `Leaf`: there, and not cut. `CutsWithin C X`: every cut of C is one of X. `NoneHangs`: no edge of a leaf has its midpoint made by a cut
 --   (`cuts/specs/Sets`). `CutList`, `LeafList`, `MadeList`: a list of all cuts, leaves, made vertices, each once (`cuts/specs/Count`).
 -- - `OnGrid`: a multiple of 32 from -32,736 to 32,736; `EdgeOf i e`: e is an edge of the face without slot i (`check_meaning/specs/Accepted`). `Midpoint`: its
---   double is the sum, in each coordinate (`grid/specs/Corners`); `sixfoldOf`: the absolute determinant (`grid_volume/specs/Volume`); `markedAt`: a face's
---   mark, named by its midpoint, and `SameFace`: the same three corners, over names (`cuts_names/specs/Base`).
+--   double is the sum, in each coordinate (`grid/specs/Corners`); `sixfoldOf`: the absolute determinant (`grid_volume/specs/Volume`) (on demand 3's page `markedAt`: a
+--   face's mark, named by its midpoint, and `SameFace`: the same three corners, over names; `cuts_names/specs/Base`).
 -- - `meshBytes`, `selectionOf`, `namedIn`: document 01's layout of a mesh's and a selection's bytes (`stored/specs/Layout`).
 use mathlib.Core.Path.{_≡_}
-use mathlib.Core.Logic.{_↔_, _≢_, _⊎_}
+use mathlib.Core.Logic.{_↔_, _≢_}
 use mathlib.Core.Bool.{true, false, cond, false≢true}
 use mathlib.Core.List.{List, [], _∷_, _++_}
-use Prim.Native.Nat.{ℕ, _≤_, _<_, _+_, _*_, _/_, _-_, suc}
+use Prim.Native.Nat.{ℕ, _≤_, _<_, _+_, _*_, _/_, _-_}
 use lib.ListN.{length, getD, replicate}
 use lib.Dec.{ltb}
 use lib.IntN.{ℤ, pos, negsuc}
@@ -43,7 +43,6 @@ use Rattle.stored.specs.Layout.{none, Mesh, meshBytes, limits, meshLength, last
 use Rattle.cuts.specs.Sets.{Cuts, There, NoneHangs, Leaf, CutsWithin}
 use Rattle.cuts.specs.Count.{CutList, MadeList, LeafList}
 use Rattle.build_marks.specs.Marking.{plainPlace, plainPiece, markedPiece}
-use Rattle.cuts_names.specs.Base.{SameFace, markedAt}
 
 -- ======== demand 2: a base mesh, properly marked
 
@@ -482,44 +481,6 @@ pub record Closes (b : BaseMesh) (C : Cuts (b .pieces)) (selected : Node → Typ
   pub cuts : List Node
   pub cuts-listed : CutList X cuts
 
--- What refine hands back where it accepts: the bytes store a set D of cuts of the same base, with the same job and the next round.
-pub record Refined (job round : ℕ) (b : BaseMesh) (C : Cuts (b .pieces)) (selected : Node → Type 0) (bytes : List ℕ) (room : ℕ) : Type 0 where
-  pub set : Cuts (b .pieces)
-  pub mesh : List ℕ
-  pub fits-room : length mesh ≤ room
-  pub written : bytes ≡ mesh ++ replicate (room - length mesh) 0
-  pub stores : Stores mesh job (round + 1) b set
-  -- no hanging edge, within 01's limits
-  pub right : RightSet b set
-  -- "Ours is one of them"
-  pub one-of-them : Closes b C selected set
-  -- "and is inside all of them"
-  pub inside : (X : Cuts (b .pieces)) → Closes b C selected X → CutsWithin set X
-  -- "so none has fewer pieces"
-  pub none-fewer : (X : Cuts (b .pieces)) → Closes b C selected X → (ours theirs : List Node) → LeafList set ours → LeafList X theirs → length ours ≤ length theirs
-  -- "Shared faces carry one mark": `markedAt` is the midpoint of the marked edge, by which the edge is named
-  pub one-mark : (n m : Node) → Leaf set n → Leaf set m → (i j : ℕ) → i < 4 → j < 4 → SameFace (pieceAt (named b) n) i (pieceAt (named b) m) j →
-      markedAt (pieceAt (named b) n) i ≡ markedAt (pieceAt (named b) m) j
-  -- "the summed volume is unchanged"
-  pub volume : (before after : List Node) → LeafList C before → LeafList set after → sumOf (sixfoldAt b) after ≡ sumOf (sixfoldAt b) before
-  -- "no piece is deeper than the least multiple of three that reaches both the deepest piece before and the children of the selected ones": whatever
-  -- multiple reaches both reaches every piece
-  pub no-deeper : (k : ℕ) → ((n : Node) → Leaf C n → generation n ≤ 3 * k) → ((n : Node) → selected n → suc (generation n) ≤ 3 * k) → (n : Node) → Leaf set n → generation n ≤ 3 * k
-
--- Demand 3, of refine's number and bytes.
-pub record LeastOrFull (job round : ℕ) (b : BaseMesh) (C : Cuts (b .pieces)) (selected : Node → Type 0) (number : ℕ) (bytes : List ℕ) (room : ℕ) : Type 0 where
-  pub accepted-or-full : (number ≡ 0) ⊎ (number ≡ 19)
-  -- "“tables full” is answered exactly when none fits"
-  pub full : (number ≡ 19) ↔ ((X : Cuts (b .pieces)) → Closes b C selected X → Fits limits b X → ⊥)
-  pub full-zeros : number ≡ 19 → bytes ≡ replicate room 0
-  pub refined : number ≡ 0 → Refined job round b C selected bytes room
-
--- The same of a stored mesh x and a selection: the selection is good for it; what is accepted; number and bytes.
+-- The same of a stored mesh x: the selection is good for it.
 abbrev pub GoodFor : {s : List ℕ} → StoredMesh s → List ℕ → Type 0
 GoodFor x selection = GoodSelection (x .job) (x .round) (x .base) (x .cuts) (x .stores .numbers) selection
-
-abbrev pub RefinedFrom : {s : List ℕ} → StoredMesh s → List ℕ → List ℕ → ℕ → Type 0
-RefinedFrom x selection bytes room = Refined (x .job) (x .round) (x .base) (x .cuts) (SelectedPiece (x .stores .numbers) selection) bytes room
-
-abbrev pub LeastOrFullFrom : {s : List ℕ} → StoredMesh s → List ℕ → ℕ → List ℕ → ℕ → Type 0
-LeastOrFullFrom x selection number bytes room = LeastOrFull (x .job) (x .round) (x .base) (x .cuts) (SelectedPiece (x .stores .numbers) selection) number bytes room
