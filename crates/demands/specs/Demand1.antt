@@ -36,7 +36,7 @@ use Rattle.refine_meaning.specs.Answer as Refine
 use Rattle.list_lines.specs.Lines.{refusedLine, lineRoom}
 use Rattle.list_service.specs.declared.Listed.{Listed}
 use Rattle.list_service.specs.Listing.{linesOf, meshLines, listingOf, listedNumber, ListOutcomeIs, largestListing}
-use Rattle.list_meaning.specs.Answer.{list-whole, list-short}
+use Rattle.list_service.specs.Answer.{list-whole, list-short}
 use Rattle.list_meaning.specs.Longest.{no-line-longer, listing-at-most}
 use Rattle.demands.specs.Words.{StoredMesh, ArgumentTypes}
 use Rattle.demands.specs.GivenTypes.{given-by-types}

@@ -1,4 +1,3 @@
 -- What the listing says.
 pub mod Example
-pub mod Answer
 pub mod Longest

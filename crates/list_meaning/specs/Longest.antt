@@ -20,7 +20,7 @@ use Rattle.check_service.specs.Verdict.{accepted-bounded}
 use Rattle.list_lines.specs.Lines.{lineRoom, refusedLine, headingLine, leafLine}
 use Rattle.list_service.specs.Listing.{largestMesh, leafLines, meshLines, judgedLines, linesOf, textOf, listingOf, listedNumber, listNumber, listLength, listBytes, largestListing}
 use Rattle.list_service.specs.Lengths.{refused-long, leaf-fits, record-of, heading-fits}
-use Rattle.list_meaning.specs.Answer.{list-whole}
+use Rattle.list_service.specs.Answer.{list-whole}
 use Rattle.list_service.specs.Putting.{leaves-long, judged-refused, judged-listed, longer-text, longer-number, judged-text, judged-number}
 
 -- Lines that are each as long as the buffer at most.

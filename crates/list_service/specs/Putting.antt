@@ -10,7 +10,7 @@ use native.Mathlib.Omega.{arith}
 use lib.Dec.{eqb}
 use lib.ListN.{length, take, replicate, length-append}
 use lib.Seq.{sets, length-sets}
-use borrow.Author.Tests.{eq-eqb, ne-eqb, lt-ltb, le-ltb, eqb-true}
+use borrow.Author.Tests.{eq-eqb, ne-eqb, lt-ltb, le-ltb}
 use Rattle.laws.specs.Lists.{joined, joined-append, sets-append, clear-with}
 use Rattle.stored.specs.declared.Record.{Record}
 use Rattle.stored.specs.Fitting.{RecordFits}
@@ -21,7 +21,8 @@ use Rattle.list_text.specs.Line.{Line, line, put}
 use Rattle.list_text.specs.Laws.{put-whole}
 use Rattle.list_lines.specs.Lines.{lineRoom, refusedLine, headingLine, leafLine}
 use Rattle.list_service.specs.declared.Listed.{Listed}
-use Rattle.list_service.specs.Listing.{largestMesh, leafLines, meshLines, judgedLines, linesOf, textOf, listingOf, listedNumber, listNumber, listLength, listBytes, ListOutcomeIs}
+use Rattle.list_service.specs.Answer.{list-whole, list-short}
+use Rattle.list_service.specs.Listing.{largestMesh, leafLines, meshLines, judgedLines, linesOf, textOf, listingOf, listedNumber, listNumber, ListOutcomeIs}
 use Rattle.list_service.specs.Lengths.{leaf-fits}
 
 -- A text is put at a place of a buffer, as far as there is room. The place behind it is counted on, also beyond the buffer's end.
@@ -130,28 +131,14 @@ module _ (s : List ℕ) (room : ℕ) (b : List ℕ) (r : Listed) (whole : Listin
   long = omega (arith, whole .text .place)
 
   pub answer-whole : r .length ≤ room → ListOutcomeIs s room r b
-  unfolding listNumber listLength listBytes
   answer-whole l =
       let fits : length (listingOf s) ≤ room = omega (arith, long) in
-      record {
-        number = rw (le-ltb room (length (listingOf s)) fits) own;
-        length = rw (le-ltb room (length (listingOf s)) fits) long;
-        bytes = rw (le-ltb room (length (listingOf s)) fits) (whole .text .bytes ∙ clear-with room (listingOf s) fits);
-      }
-    where
-      own : r .number ≡ cond (eqb (listedNumber s) 0) 0 (listedNumber s)
-      own = whole .number ∙ go (listedNumber s) (eqb (listedNumber s) 0) (eqb-true (listedNumber s) 0)
-        where
-          go : (n : ℕ) (zero : Bool) → (zero ≡ true → n ≡ 0) → n ≡ cond zero 0 n
-          go n true is = is refl
-          go n false is = refl
+      let is = list-whole s room fits in
+      record { number = whole .number ∙ sym (is .0); length = long ∙ sym (is .1); bytes = whole .text .bytes ∙ clear-with room (listingOf s) fits ∙ sym (is .2) }
 
   pub answer-short : room < r .length → (number : ℕ) → number ≡ cond (eqb (r .number) 0) 20 (r .number) → ListOutcomeIs s room (record { number = number; length = 0 }) (replicate room 0)
-  unfolding listNumber listLength listBytes
+  unfolding listNumber
   answer-short l number e =
       let short : room < length (listingOf s) = omega (arith, long) in
-      record {
-        number = rw (lt-ltb room (length (listingOf s)) short) (e ∙ ap (λ (n : ℕ). cond {A = ℕ} (eqb n 0) 20 n) (whole .number));
-        length = rw (lt-ltb room (length (listingOf s)) short) refl;
-        bytes = rw (lt-ltb room (length (listingOf s)) short) refl;
-      }
+      let is = list-short s room short in
+      record { number = rw (lt-ltb room (length (listingOf s)) short) (e ∙ ap (λ (n : ℕ). cond {A = ℕ} (eqb n 0) 20 n) (whole .number)); length = sym (is .1); bytes = sym (is .2) }
