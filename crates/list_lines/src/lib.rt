@@ -45,11 +45,12 @@ pub fn set_heading(buffer: &mut [u8], h: Header, report: Report) -> usize
 fn set_corners(buffer: &mut [u8], n: usize, p: Piece) -> usize
     ensures { λ r. ⌜ line (now (buffer .exit)) r ≡ put (figures (cornerFigures n p)) (line (now (buffer .entry)) 0) ⌝ }
 {
+    let corners = p.corners;
     let at = list_writer::figure(buffer, 0, b"", n as u64);
-    let at = list_writer::figure(buffer, at, b" ", piece::corner(p, 0) as u64);
-    let at = list_writer::figure(buffer, at, b" ", piece::corner(p, 1) as u64);
-    let at = list_writer::figure(buffer, at, b" ", piece::corner(p, 2) as u64);
-    list_writer::figure(buffer, at, b" ", piece::corner(p, 3) as u64)
+    let at = list_writer::figure(buffer, at, b" ", piece::corner_at(corners, 0) as u64);
+    let at = list_writer::figure(buffer, at, b" ", piece::corner_at(corners, 1) as u64);
+    let at = list_writer::figure(buffer, at, b" ", piece::corner_at(corners, 2) as u64);
+    list_writer::figure(buffer, at, b" ", piece::corner_at(corners, 3) as u64)
 }
 
 fn put_edge(buffer: &mut [u8], at: usize, p: Piece) -> usize

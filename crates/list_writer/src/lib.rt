@@ -1,17 +1,17 @@
 // A writer: it holds a slice of the line buffer, and the place of the next byte. Each function that takes or makes one takes it apart and
 // calls a covered function with the slice and the place.
 ghost use mathlib.Core.Path.{_≡_};
-ghost use mathlib.Core.List.{[], _∷_, _++_};
+ghost use mathlib.Core.List.{_++_};
 ghost use Rattle.list_text.specs.Line.{line, put};
 ghost use Rattle.list_text.specs.Text.{decimal, lineFeed};
 ghost use Rattle.list_writer.specs.Written.{written};
 
-pub struct Writer<'a> {
-    pub buffer: &'a mut [u8],
-    pub at: usize,
+struct Writer<'a> {
+    buffer: &'a mut [u8],
+    at: usize,
 }
 
-pub fn new<'a>(buffer: &'a mut [u8], at: usize) -> Writer<'a>
+fn new<'a>(buffer: &'a mut [u8], at: usize) -> Writer<'a>
     ensures { λ r. ⌜ (r .buffer ≡ buffer .entry) × (r .at ≡ at) ⌝ }
 {
     Writer {
@@ -20,7 +20,7 @@ pub fn new<'a>(buffer: &'a mut [u8], at: usize) -> Writer<'a>
     }
 }
 
-pub fn put_bytes<'a, 'b>(w: Writer<'a>, bytes: &'b [u8]) -> Writer<'a>
+fn put_bytes<'a, 'b>(w: Writer<'a>, bytes: &'b [u8]) -> Writer<'a>
     ensures { λ r. ⌜ r ≡ written (w .entry) (now (bytes .entry)) ⌝ }
 {
     let at = w.at;
@@ -32,18 +32,11 @@ pub fn put_bytes<'a, 'b>(w: Writer<'a>, bytes: &'b [u8]) -> Writer<'a>
 }
 
 // The writer is not needed after a number: the place of the next byte is handed back.
-pub fn put_number<'a>(w: Writer<'a>, n: u64) -> usize
+fn put_number<'a>(w: Writer<'a>, n: u64) -> usize
     ensures { λ r. ⌜ line (now (w .exit .0)) r ≡ put (decimal n) (line (now (w .entry .buffer)) (w .entry .at)) ⌝ }
 {
     let at = w.at;
     list_text::number_at(&mut *w.buffer, at, n)
-}
-
-pub fn put_byte<'a>(w: Writer<'a>, byte: u8) -> usize
-    ensures { λ r. ⌜ line (now (w .exit .0)) r ≡ put (byte ∷ []) (line (now (w .entry .buffer)) (w .entry .at)) ⌝ }
-{
-    let at = w.at;
-    list_text::byte_at(&mut *w.buffer, at, byte)
 }
 
 // A number behind its word. Its contract says nothing of a writer, so whoever calls it needs no walk by hand.
@@ -57,5 +50,5 @@ pub fn figure(buffer: &mut [u8], at: usize, name: &[u8], n: u64) -> usize
 pub fn end(buffer: &mut [u8], at: usize) -> usize
     ensures { λ r. ⌜ line (now (buffer .exit)) r ≡ put lineFeed (line (now (buffer .entry)) at) ⌝ }
 {
-    put_byte(new(buffer, at), b'\n')
+    list_text::byte_at(buffer, at, b'\n')
 }

@@ -2,7 +2,7 @@
 ghost use mathlib.Core.Path.{_≡_};
 ghost use Rattle.piece.specs.Shape.{shapeOf, mark, markFits};
 ghost use lib.ListN.{getD};
-ghost use Rattle.piece.specs.Ends.{cornerAt, lowerEnd, higherEnd, between, endsAt, endsOf};
+ghost use Rattle.piece.specs.Ends.{lowerEnd, higherEnd, between, endsAt, endsOf};
 
 // "Generations go up to 15."
 pub const LAST_GENERATION: u8 = 15;
@@ -51,27 +51,22 @@ pub fn mark_of(p: Piece, i: u8) -> u8
     }
 }
 
-// The vertex number in slot k.
-pub fn corner(p: Piece, k: u8) -> u32
-    ensures { λ r. ⌜ r ≡ cornerAt p k ⌝ }
+// Of four corners, the vertex number in slot k.
+pub fn corner_at(corners: [u32; 4], k: u8) -> u32
+    ensures { λ r. ⌜ r ≡ getD corners k 0 ⌝ }
 {
-    let corners = p.corners;
-    match k {
-        0 => corners[0],
-        1 => corners[1],
-        2 => corners[2],
-        3 => corners[3],
-        _ => 0,
-    }
+    let at = k as usize;
+    if at < 4 { corners[at] } else { 0 }
 }
 
 // Of edge e, the slot of the end of lower vertex number.
 pub fn lower_end(p: Piece, e: u8) -> u8
     ensures { λ r. ⌜ r ≡ lowerEnd p e ⌝ }
 {
+    let corners = p.corners;
     let low = piece_edges::low_slot(e);
     let high = piece_edges::high_slot(e);
-    if corner(p, low) < corner(p, high) {
+    if corner_at(corners, low) < corner_at(corners, high) {
         return low;
     }
     high
@@ -81,9 +76,10 @@ pub fn lower_end(p: Piece, e: u8) -> u8
 pub fn higher_end(p: Piece, e: u8) -> u8
     ensures { λ r. ⌜ r ≡ higherEnd p e ⌝ }
 {
+    let corners = p.corners;
     let low = piece_edges::low_slot(e);
     let high = piece_edges::high_slot(e);
-    if corner(p, low) < corner(p, high) {
+    if corner_at(corners, low) < corner_at(corners, high) {
         return high;
     }
     low
@@ -103,14 +99,6 @@ pub fn ends_between(u: u32, v: u32) -> Ends
         lower: v,
         higher: u,
     }
-}
-
-// Of four corners, the vertex number in slot k.
-pub fn corner_at(corners: [u32; 4], k: u8) -> u32
-    ensures { λ r. ⌜ r ≡ getD corners k 0 ⌝ }
-{
-    let at = k as usize;
-    if at < 4 { corners[at] } else { 0 }
 }
 
 // Of a piece with these corners, the ends of edge e.

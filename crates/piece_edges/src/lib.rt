@@ -27,7 +27,7 @@ pub fn high_slot(e: u8) -> u8
 }
 
 // Whether slot k is an end of edge e.
-pub fn has_slot(e: u8, k: u8) -> bool
+fn has_slot(e: u8, k: u8) -> bool
     ensures { λ r. ⌜ r ≡ hasSlot e k ⌝ }
 {
     if low_slot(e) == k {

@@ -16,8 +16,24 @@ use Rattle.list_lines.proofs.set_corners.Tie as tie
 returns : tie.Need-returns
 unfolding word cornerFigures
 returns c =
-    next-figure " " (c .before .before .before .corner4 .result) (("", c .before .before .before .before .before .before .before .before .before .before .before .before .before .before .before .before .before .before .before .before .before .before .before .before .before .before .before .before .before .before .args .n) ∷ (" ", c .before .before .before .before .before .before .before .before .before .before .before .before .before .before .before .before .before .before .before .before .before .corner .result) ∷ (" ", c .before .before .before .before .before .before .before .before .before .before .before .before .before .before .before .corner2 .result) ∷ (" ", c .before .before .before .before .before .before .before .before .before .corner3 .result) ∷ []) (line (now (c .before .before .before .before .before .before .before .before .before .before .before .before .before .before .before .before .before .before .before .before .before .before .before .before .before .before .before .before .before .before .args .buffer)) 0) (next-figure " " (c .before .before .before .before .before .before .before .before .before .corner3 .result) (("", c .before .before .before .before .before .before .before .before .before .before .before .before .before .before .before .before .before .before .before .before .before .before .before .before .before .before .before .before .before .before .args .n) ∷ (" ", c .before .before .before .before .before .before .before .before .before .before .before .before .before .before .before .before .before .before .before .before .before .corner .result) ∷ (" ", c .before .before .before .before .before .before .before .before .before .before .before .before .before .before .before .corner2 .result) ∷ []) (line (now (c .before .before .before .before .before .before .before .before .before .before .before .before .before .before .before .before .before .before .before .before .before .before .before .before .before .before .before .before .before .before .args .buffer)) 0) (next-figure " " (c .before .before .before .before .before .before .before .before .before .before .before .before .before .before .before .corner2 .result) (("", c .before .before .before .before .before .before .before .before .before .before .before .before .before .before .before .before .before .before .before .before .before .before .before .before .before .before .before .before .before .before .args .n) ∷ (" ", c .before .before .before .before .before .before .before .before .before .before .before .before .before .before .before .before .before .before .before .before .before .corner .result) ∷ []) (line (now (c .before .before .before .before .before .before .before .before .before .before .before .before .before .before .before .before .before .before .before .before .before .before .before .before .before .before .before .before .before .before .args .buffer)) 0) (next-figure " " (c .before .before .before .before .before .before .before .before .before .before .before .before .before .before .before .before .before .before .before .before .before .corner .result) (("", c .before .before .before .before .before .before .before .before .before .before .before .before .before .before .before .before .before .before .before .before .before .before .before .before .before .before .before .before .before .before .args .n) ∷ []) (line (now (c .before .before .before .before .before .before .before .before .before .before .before .before .before .before .before .before .before .before .before .before .before .before .before .before .before .before .before .before .before .before .args .buffer)) 0) (first-figure "" (c .before .before .before .before .before .before .before .before .before .before .before .before .before .before .before .before .before .before .before .before .before .before .before .before .before .before .before .before .before .before .args .n) (line (now (c .before .before .before .before .before .before .before .before .before .before .before .before .before .before .before .before .before .before .before .before .before .before .before .before .before .before .before .before .before .before .args .buffer)) 0) (c .before .before .before .before .before .before .before .before .before .before .before .before .before .before .before .before .before .before .before .before .before .before .before .before .before .before .figure .ensures)) (c .before .before .before .before .before .before .before .before .before .before .before .before .before .before .before .before .before .before .before .before .figure2 .ensures)) (c .before .before .before .before .before .before .before .before .before .before .before .before .before .before .figure3 .ensures)) (c .before .before .before .before .before .before .before .before .figure4 .ensures)) (c .before .before .figure5 .ensures)
-    ∙ ap (λ (f : List (String × ℕ)). put (figures f) (line (now (c .before .before .before .before .before .before .before .before .before .before .before .before .before .before .before .before .before .before .before .before .before .before .before .before .before .before .before .before .before .before .args .buffer)) 0)) (λ i. ("", c .before .before .before .before .before .before .before .before .before .before .before .before .before .before .before .before .before .before .before .before .before .before .before .before .before .before .before .before .before .before .args .n) ∷ (" ", c .before .before .before .before .before .before .before .before .before .before .before .before .before .before .before .before .before .before .before .before .before .corner .ensures i) ∷ (" ", c .before .before .before .before .before .before .before .before .before .before .before .before .before .before .before .corner2 .ensures i) ∷ (" ", c .before .before .before .before .before .before .before .before .before .corner3 .ensures i) ∷ (" ", c .before .before .before .corner4 .ensures i) ∷ [])
+    let fourth = c .before .before .before in
+    let third = fourth .before .before .before .before .before .before in
+    let second = third .before .before .before .before .before .before in
+    let first = second .before .before .before .before .before .before in
+    let a = first .before .before .before .before .before .before .before .before .before .before .args in
+    let l = line (now (a .buffer)) 0 in
+    let one : List (String × ℕ) = ("", a .n) ∷ [] in
+    let two : List (String × ℕ) = ("", a .n) ∷ (" ", first .corner-at .result) ∷ [] in
+    let three : List (String × ℕ) = ("", a .n) ∷ (" ", first .corner-at .result) ∷ (" ", second .corner-at2 .result) ∷ [] in
+    let four : List (String × ℕ) = ("", a .n) ∷ (" ", first .corner-at .result) ∷ (" ", second .corner-at2 .result) ∷ (" ", third .corner-at3 .result) ∷ [] in
+    next-figure " " (fourth .corner-at4 .result) four l
+    (next-figure " " (third .corner-at3 .result) three l
+    (next-figure " " (second .corner-at2 .result) two l
+    (next-figure " " (first .corner-at .result) one l (first-figure "" (a .n) l (first .before .before .before .before .before .figure .ensures)) (second .before .before .before .before .before .figure2 .ensures))
+    (third .before .before .before .before .before .figure3 .ensures))
+    (fourth .before .before .before .before .before .figure4 .ensures))
+    (c .before .before .figure5 .ensures)
+    ∙ ap (λ (f : List (String × ℕ)). put (figures f) l) (λ i. ("", a .n) ∷ (" ", first .corner-at .ensures i) ∷ (" ", second .corner-at2 .ensures i) ∷ (" ", third .corner-at3 .ensures i) ∷ (" ", fourth .corner-at4 .ensures i) ∷ [])
 
 pub set-corners-spec : {M : Type 1} → statement M
 set-corners-spec = tie.close (tie.spec (λ c. search needs) (λ c κs. search needs) (λ c. search needs) (λ c κs. search needs) (λ c. search needs) (λ c κs. search needs) (λ c. search needs) (λ c κs. search needs) (λ c. search needs) (λ c κs. search needs) (λ c. search needs) (λ c κs. search needs) (λ c. search needs) (λ c κs. search needs) (λ c. search needs) (λ c κs. search needs) (λ c. search needs) (λ c κs. search needs) (λ c. search needs) returns)
