@@ -10,7 +10,7 @@ use Rattle.piece_edges.specs.Edges.{onFace}
 use Rattle.piece.specs.Ends.{endsOf}
 use Rattle.grid.specs.declared.Place.{Place}
 use Rattle.grid_lengths.specs.declared.Ranked.{Ranked}
-use Rattle.grid.specs.Places.{pointOf}
+use Rattle.grid.specs.Places.{shift, pointOf}
 use Rattle.grid_lengths.specs.Lengths.{squaredLength, ranksBefore}
 use Rattle.stored.specs.declared.Vertex.{Vertex}
 use Rattle.stored.specs.declared.Record.{Record}
@@ -18,7 +18,7 @@ use Rattle.stored.specs.Layout.{none}
 
 -- The place of a coordinate: 32,768 more.
 abbrev pub placeFor : ℤ → ℕ
-placeFor z = natAbs (z +ℤ pos 32768)
+placeFor z = natAbs (z +ℤ pos shift)
 
 -- Where vertex v stands: three coordinates a vertex. Past the end a coordinate is 0.
 unfoldable pub plainPlace : List ℤ → ℕ → Place

@@ -9,16 +9,17 @@ use mir.Syntax.{w16, w32}
 use mir.Val.{Fits, SFits, toZ, ofZ}
 use mir.Facts.{toZ-ofZ, sfits-widen}
 use borrow.Author.Tests.{le-ltb}
+use Rattle.grid.specs.Places.{shift}
 
 pub record Above (z : ℤ) : Type 0 where
   pub number : ℕ
-  pub is : z +ℤ pos 32768 ≡ pos number
+  pub is : z +ℤ pos shift ≡ pos number
   pub small : number < 65536
 
 above : (z : ℤ) → SFits w16 z → Above z
-above (pos n) h = record { number = n + 32768; is = refl; small = omega (arith, h .sfits) }
+above (pos n) h = record { number = n + shift; is = refl; small = omega (arith, h .sfits) }
 above (negsuc n) h =
-    record { number = 32768 - suc n; is = rw (le-ltb 32768 (suc n) (omega (arith, h .sfits))); small = omega arith }
+    record { number = shift - suc n; is = rw (le-ltb shift (suc n) (omega (arith, h .sfits))); small = omega arith }
 
 -- A number as an i16 and an i32 hold it.
 abbrev pub held16 : ℤ → ℤ
@@ -34,15 +35,15 @@ module _ (z : ℤ) (h : SFits w16 z) where
   itself : held32 (held16 z) ≡ z
   itself = toZ-ofZ widens ∙ toZ-ofZ h
 
-  pub adds : SFits w32 (held32 (held16 z) +ℤ pos 32768)
+  pub adds : SFits w32 (held32 (held16 z) +ℤ pos shift)
   adds =
-      subst (λ (x : ℤ). SFits w32 (x +ℤ pos 32768)) (sym itself)
+      subst (λ (x : ℤ). SFits w32 (x +ℤ pos shift)) (sym itself)
       (subst (SFits w32) (sym (above z h .is)) (record { sfits = omega (arith, above z h .small) }))
 
-  pub sum-held : held32 (held32 (held16 z) +ℤ pos 32768) ≡ z +ℤ pos 32768
-  sum-held = toZ-ofZ adds ∙ ap (λ (x : ℤ). x +ℤ pos 32768) itself
+  pub sum-held : held32 (held32 (held16 z) +ℤ pos shift) ≡ z +ℤ pos shift
+  sum-held = toZ-ofZ adds ∙ ap (λ (x : ℤ). x +ℤ pos shift) itself
 
-  pub narrows : T (nonNeg (held32 (held32 (held16 z) +ℤ pos 32768))) × Fits w16 (natAbs (held32 (held32 (held16 z) +ℤ pos 32768)))
+  pub narrows : T (nonNeg (held32 (held32 (held16 z) +ℤ pos shift))) × Fits w16 (natAbs (held32 (held32 (held16 z) +ℤ pos shift)))
   narrows =
       subst (λ (x : ℤ). T (nonNeg x) × Fits w16 (natAbs x)) (sym (sum-held ∙ above z h .is))
       (tt, record { fits = omega (arith, above z h .small) })

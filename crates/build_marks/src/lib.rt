@@ -10,11 +10,13 @@ ghost use lib.IntN.{pos};
 ghost use Rattle.build_marks.specs.Marking.{placeFor, plainPlace, plainVertex, plainPiece, markedPiece, plainRecord};
 ghost use Rattle.build_marks.specs.Choosing.{edgeFor, firstOf, markedBy};
 
+const SHIFT: i32 = grid::SHIFT as i32;
+
 // A coordinate's place: an i32 holds the sum.
 fn place_for(x: i16) -> u16
     ensures { λ r. ⌜ r ≡ placeFor x ⌝ }
 {
-    ((x as i32) + 32768) as u16
+    ((x as i32) + SHIFT) as u16
 }
 
 // The place of the coordinate at an index; past the end a coordinate is 0.
@@ -24,7 +26,7 @@ fn place_at(coordinates: &[i16], at: usize) -> u16
     if at < coordinates.len() {
         place_for(coordinates[at])
     } else {
-        32768
+        grid::SHIFT as u16
     }
 }
 

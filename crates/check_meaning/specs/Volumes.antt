@@ -1,5 +1,5 @@
--- Cutting halves volumes: no record is flat, and the leaves' sixfold volumes add up to those of the base records.
-use mathlib.Core.Path.{_≡_, refl, sym, ap, ap₂, _∙_, subst, fun-ext}
+-- Cutting halves volumes: the leaves' sixfold volumes add up to those of the base records.
+use mathlib.Core.Path.{_≡_, refl, sym, ap, ap₂, _∙_, fun-ext}
 use mathlib.Core.Bool.{Bool, true, false, cond, _||_}
 use mathlib.Core.Logic.{_≢_, ⊎-elim}
 use Prim.Native.Nat.{ℕ, _+_, _*_, _<_}
@@ -7,7 +7,6 @@ use native.Mathlib.Omega.{arith}
 use lib.Dec.{eqb, ltb}
 use borrow.Author.Tests.{ltb-true, ltb-false, eqb-true, eqb-false, ne-eqb}
 use Rattle.laws.specs.Below.{putAt, sumBelow, sum-same, either}
-use Rattle.algebra.specs.Multiple.{halves}
 use Rattle.piece.specs.declared.Piece.{Piece}
 use Rattle.piece.specs.Shape.{shapeOf}
 use Rattle.piece.specs.Ends.{cornerAt, lowerEnd, higherEnd, endsOf}
@@ -23,7 +22,7 @@ use Rattle.check_meaning.specs.Tests.{fails-unless}
 use Rattle.check_meaning.specs.Accepted.{RightMesh, RightCut, firstChild, pointAt}
 use Rattle.check_meaning.specs.Bases.{slots-apart, valid-is}
 use Rattle.check_meaning.specs.Cuts.{Four, child-of}
-use Rattle.check_meaning.specs.Descent.{ends-are, lower-is-end, higher-is-end, child-corner, by-descent, every-sound, base-no-child}
+use Rattle.check_meaning.specs.Descent.{ends-are, lower-is-end, higher-is-end, child-corner, every-sound, base-no-child}
 use Rattle.check_meaning.specs.Sums.{sum-plus, sum-of-none, sum-swap, sum-of-one, sum-of-part, sum-at, sum-parts}
 
 -- The child's corners are the parent's with w's place in slot k.
@@ -67,16 +66,6 @@ module _ (m : Tables) (a : RightMesh m) (four : (n : ℕ) → Four (pieceAt m n)
       let first = ap (sixfoldAt (m .vertexAt)) (r .first) ∙ child-sixfold m p (r .w) v (sound .four) lv in
       let second = ap (sixfoldAt (m .vertexAt)) (r .second) ∙ child-sixfold m p (r .w) u (sound .four) lu in
       (omega (arith, kept, half, first, second), omega (arith, half, second))
-
-  -- Every record has a volume: the base has, and half of one is one.
-  pub every-volume : (n : ℕ) → n < allRecords m → volume m n ≢ 0
-  every-volume =
-      by-descent m (a .cuts) (λ n. volume m n ≢ 0) (λ n l. a .base-records n l .volume)
-      (λ c l d h none.
-      let (first, second) = children-halve (d .parent) (omega (arith, d .before)) (d .cut) in
-      let Half : ℕ → Type 0 = λ k. volume m k * 2 ≡ volume m (d .parent) in
-      let here : Half c = ⊎-elim (λ e. subst Half e first) (λ e. subst Half e second) (d .child .is) in
-      h (omega (arith, here, none)))
 
   -- A record of the base is no child; any other is the child of exactly one.
   by-parents : (c : ℕ) → c < allRecords m → sumBelow (allRecords m) (share m c) ≡ cond (ltb c (baseRecords m)) 0 (volume m c)

@@ -108,17 +108,6 @@ pub kids-apart : (p : Node) (side : Side) → Apart (kid p side) (kid p (other s
 kids-apart p side =
     (not-beside p side (other side) (other-differs side), not-beside p (other side) side (λ e. other-differs side (sym e)))
 
--- Nothing comes after both children of a node.
-pub not-both : (p o : Node) (side : Side) → After (kid p side) o → After (kid p (other side)) o → ⊥
-not-both p o side a b =
-    ⊎-elim (kids-apart p side .0) (kids-apart p side .1) (before-both (kid p side) (kid p (other side)) o a b)
-
--- A node does not come after its child.
-pub not-up : (p : Node) (side : Side) → After (kid p side) p → ⊥
-not-up p side a =
-    let long : length (p .path) ≡ length (a .0 ++ (side ∷ p .path)) = ap (λ (x : Node). length (x .path)) (a .1) in
-    omega (arith, length-append (a .0) (side ∷ p .path))
-
 -- To be apart is symmetric.
 pub apart-flip : (n m : Node) → Apart n m → Apart m n
 apart-flip n m a = (a .1, a .0)

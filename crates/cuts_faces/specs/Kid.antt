@@ -13,7 +13,7 @@ use Rattle.piece_cut.specs.Cut.{childShape}
 use Rattle.cuts_names.specs.Names.{Name, mid, mid-sym}
 use Rattle.cuts_names.specs.Pieces.{Piece, Side, low, high, endAt, midOf, makes, child}
 use Rattle.cuts_names.specs.Base.{OnFace, SameFace, Different, markedAt}
-use Rattle.cuts_names.specs.Macro.{computed, edge-below, side-valid}
+use Rattle.cuts_names.specs.Macro.{computed, edge-below}
 use Rattle.cuts.specs.FacesNames.{face-slots, mark-on-face}
 use Rattle.cuts_faces.specs.Apart.{other}
 
@@ -54,10 +54,6 @@ new-corner p side = rw (eq-eqb (newSlot p side) (newSlot p side) refl)
 pub old-corner : (p : Piece Name) (side : Side) (j : ℕ) → j ≢ newSlot p side → child p side .corner j ≡ p .corner j
 unfolding child
 old-corner p side j d = rw (ne-eqb j (newSlot p side) d)
-
-pub child-valid : (p : Piece Name) → Valid (p .shape) → (side : Side) → Valid (child p side .shape)
-unfolding child
-child-valid p v side = side-valid (p .shape) v side
 
 -- ---- the inherited face
 

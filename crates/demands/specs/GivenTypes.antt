@@ -10,7 +10,7 @@ use lib.Dec.{leb→le, le→leb}
 use mir.Syntax.{w16}
 use mir.Val.{SFits}
 use borrow.Author.Tests.{le-ltb}
-use Rattle.grid.specs.Places.{coordinate}
+use Rattle.grid.specs.Places.{coordinate, shift}
 use Rattle.build_marks.specs.Marking.{placeFor, plainPlace}
 use Rattle.build_meaning.specs.Written.{Given}
 use Rattle.demands.specs.Words.{pointAt, plainBase, I16, ArgumentTypes}
@@ -21,11 +21,11 @@ i16-held (pos n) h = record { least = record { le = tt }; greatest = record { le
 i16-held (negsuc n) h = record { least = record { le = le→leb n 32767 (omega (arith, h .sfits)) }; greatest = record { le = tt } }
 
 -- An i16 and 32,768 more is a u16.
-shifted : (z : ℤ) → I16 z → (n : ℕ) × (z +ℤ pos 32768 ≡ pos n) × (n < 65536)
-shifted (pos n) h = let l = leb→le n 32767 (h .greatest .le) in (n + 32768, refl, omega arith)
+shifted : (z : ℤ) → I16 z → (n : ℕ) × (z +ℤ pos shift ≡ pos n) × (n < 65536)
+shifted (pos n) h = let l = leb→le n 32767 (h .greatest .le) in (n + shift, refl, omega arith)
 shifted (negsuc n) h =
     let l = leb→le n 32767 (h .least .le) in
-    (32768 - suc n, rw (le-ltb 32768 (suc n) (omega arith)) refl, omega arith)
+    (shift - suc n, rw (le-ltb shift (suc n) (omega arith)) refl, omega arith)
 
 place-small : (z : ℤ) → I16 z → placeFor z < 65536
 place-small z h = let (n, e, l) = shifted z h in rw e l
@@ -35,7 +35,7 @@ place-holds : (z : ℤ) → I16 z → coordinate (placeFor z) ≡ z
 unfolding coordinate
 place-holds z h =
     let (n, e, l) = shifted z h in
-    ap (λ (x : ℤ). pos (natAbs x) -ℤ pos 32768) e ∙ ap (λ (x : ℤ). x -ℤ pos 32768) (sym e) ∙ +ℤ-negℤ-cancel z (pos 32768)
+    ap (λ (x : ℤ). pos (natAbs x) -ℤ pos shift) e ∙ ap (λ (x : ℤ). x -ℤ pos shift) (sym e) ∙ +ℤ-negℤ-cancel z (pos shift)
 
 module _ (job : ℕ) (coordinates : List ℤ) (corners : List ℕ) (t : ArgumentTypes job coordinates corners) where
   pub given-by-types : Given job coordinates corners

@@ -13,7 +13,7 @@ use Rattle.algebra.specs.Absolute.{difference-is, abs-difference-is}
 use Rattle.piece.specs.declared.Piece as Declared
 use Rattle.piece.specs.Shape.{Shape, mark, flagFits, Valid}
 use Rattle.grid.specs.declared.Place.{Place}
-use Rattle.grid.specs.Places.{coordinate, pointOf, halfwayOf}
+use Rattle.grid.specs.Places.{coordinate, pointOf, halfwayOf, shift}
 use Rattle.grid.specs.PlaceLaws.{Held}
 use Rattle.grid.specs.Corners.{Midpoint}
 use Rattle.grid.specs.GridTheorems.{halfway-exactly, halfway-only}
@@ -43,8 +43,8 @@ unfolding coordinate
 grid-held p g =
     ⊎-elim
     (λ l. omega arith)
-    (λ l. let far : natAbs (coordinate p) ≡ p - 32768 = ap natAbs (difference-is p 32768) ∙ abs-difference-is p 32768 l in omega (arith, g .within))
-    (base-or-beyond p 32768)
+    (λ l. let far : natAbs (coordinate p) ≡ p - shift = ap natAbs (difference-is p shift) ∙ abs-difference-is p shift l in omega (arith, g .within))
+    (base-or-beyond p shift)
 
 -- So does what stands halfway between two that are held.
 halfway-held : (w a c : Place) → Midpoint (pointOf w) (pointOf a) (pointOf c) → Held a → Held c → Held w

@@ -7,15 +7,13 @@ use Prim.Native.Nat.{ℕ, zero, suc, _+_, _*_, _<_}
 use native.Mathlib.Nat.{not-suc-le-zero, eq-or-lt-of-le, le-of-suc-le-suc}
 use native.Mathlib.Numerals.{add-one}
 use native.Mathlib.Omega.{arith}
-use lib.ListN.{length, drop}
+use lib.ListN.{length}
 use lib.Dec.{eqb}
-use Rattle.laws.specs.Lists.{Bytes, bytes-drop}
-use Rattle.laws.specs.Numbers.{number-below}
 use Rattle.piece.specs.Shape.{lastGeneration}
-use Rattle.stored.specs.Layout.{none, lastRound, byteAt, u16At, headerOf, marked, rightSelectionLength, rightSelectionMark, selectionOf, namedIn}
-use Rattle.check_refusals.specs.Tables.{Tables, tablesOf, allRecords, pieceAt}
+use Rattle.stored.specs.Layout.{none, lastRound, byteAt, u16At, marked, rightSelectionLength, rightSelectionMark, selectionOf, namedIn}
+use Rattle.check_refusals.specs.Tables.{Tables, allRecords, pieceAt}
 use Rattle.check_meaning.specs.Tests.{Passes, Fails, reads, equal, at-most, below, not-at-most, fails-unless, not-fails, and-passes, and-fails, or-fails, none-passes}
-use Rattle.check_meaning.specs.Accepted.{firstChild, Leaf, RightCuts}
+use Rattle.check_meaning.specs.Accepted.{firstChild, Leaf}
 use Rattle.refine_selection.specs.Selected.{wrongSelectionLength, wrongSelectionMark, anotherJob, anotherRound, badNumber, badNumbers, namesCut, namesLast}
 use Rattle.demands.specs.Words.{countIn, RightSelectionLength, RightSelectionMark}
 
@@ -71,21 +69,6 @@ pub record EarnsNone (m : Tables) (selection : List ℕ) : Type 0 where
   pub not-last : NamesNoneLast m selection
   -- 18: "the round is 65,535"
   pub round-rises : RoundRises m
-
--- On a mesh that check accepts a named record's generation is below 15.
-pub good-generation : (m : Tables) (t : List ℕ) → RightCuts m → EarnsNone m t → (i : ℕ) → i < countIn t → pieceAt m (namedIn t i) .generation < lastGeneration
-good-generation m t c g i l =
-    let most = c .generations (namedIn t i) (g .numbers .there i l) in
-    let other = g .not-last i l in
-    omega (arith, most, other)
-
--- Where the mesh is bytes, its round is below 65,535.
-pub good-round : (s t : List ℕ) → Bytes s → EarnsNone (tablesOf s) t → tablesOf s .header .round < lastRound
-unfolding tablesOf headerOf
-good-round s t b g =
-    let most : u16At s 9 < 65536 = number-below 2 (drop 9 s) (bytes-drop 9 s b) in
-    let other : u16At s 9 ≢ 65535 = g .round-rises in
-    omega (arith, most, other)
 
 -- ---- the tests
 

@@ -4,7 +4,7 @@ use mathlib.Core.Path.{_≡_, sym, _∙_, ap, subst}
 use mathlib.Core.Logic.{_↔_}
 use mathlib.Core.Bool.{Bool, true, _&&_, and-eq-true-iff}
 use mathlib.Core.List.{[], _∷_}
-use Prim.Native.Nat.{ℕ, _+_, _-_, _*_, _/_, _%_, _^_, _≤_}
+use Prim.Native.Nat.{ℕ, _+_, _*_, _/_, _%_, _^_, _≤_}
 use native.Mathlib.Nat.{pow-succ'}
 use native.Mathlib.Numerals.{add-one}
 use native.Mathlib.Omega.{arith}
@@ -15,7 +15,7 @@ use Rattle.algebra.specs.Solver.{variable, number, plus, minus, times, solve}
 use Rattle.algebra.specs.Absolute.{abs-times}
 use Rattle.algebra.specs.Multiple.{Multiple, multiple-plus, multiple-half, multiple-of-remainder, remainder-of-multiple}
 use Rattle.grid.specs.declared.Place.{Place}
-use Rattle.grid.specs.Places.{Point, coordinate, pointOf, coordinateOnGrid, onGrid, samePlace, isHalfway, halfwayOf}
+use Rattle.grid.specs.Places.{Point, coordinate, pointOf, coordinateOnGrid, samePlace, isHalfway, halfwayOf, shift}
 use Rattle.grid.specs.Corners.{Midpoint}
 
 -- three tests that pass together, each by itself
@@ -48,7 +48,7 @@ same-place-exactly a b = (
 coordinate-once : (p q : ℕ) → coordinate p ≡ coordinate q → p ≡ q
 unfolding coordinate
 coordinate-once p q e =
-    ap natAbs (sym (-ℤ-+ℤ-cancel (pos p) (pos 32768)) ∙ ap (λ (z : ℤ). z +ℤ pos 32768) e ∙ -ℤ-+ℤ-cancel (pos q) (pos 32768))
+    ap natAbs (sym (-ℤ-+ℤ-cancel (pos p) (pos shift)) ∙ ap (λ (z : ℤ). z +ℤ pos shift) e ∙ -ℤ-+ℤ-cancel (pos q) (pos shift))
 
 -- Two places with the same coordinates are one.
 pub place-once : (a b : Place) → pointOf a ≡ pointOf b → a ≡ b
@@ -63,7 +63,7 @@ place-once a b e =
 coordinates-add : (p q : ℕ) → coordinate p +ℤ coordinate q ≡ pos (p + q) -ℤ pos 65536
 unfolding coordinate
 coordinates-add p q =
-    solve (plus (minus (variable 0) (number (pos 32768))) (minus (variable 1) (number (pos 32768))))
+    solve (plus (minus (variable 0) (number (pos shift))) (minus (variable 1) (number (pos shift))))
     (minus (plus (variable 0) (variable 1)) (number (pos 65536)))
     tt (pos p ∷ pos q ∷ [])
 
@@ -113,25 +113,18 @@ pub record Multiples (m : ℕ) (p : Point) : Type 0 where
   pub y : Multiple m (p .y)
   pub z : Multiple m (p .z)
 
--- A point on the grid has multiples of 2 ^ 5 for coordinates.
-pub on-grid-multiples : (p : Point) → onGrid p ≡ true → Multiples (2 ^ 5) p
-unfolding onGrid
-on-grid-multiples p e =
-    let (a, b, c) = three (coordinateOnGrid (p .x)) (coordinateOnGrid (p .y)) (coordinateOnGrid (p .z)) .0 e in
-    record { x = on-grid-exactly (p .x) .0 a .0; y = on-grid-exactly (p .y) .0 b .0; z = on-grid-exactly (p .z) .0 c .0 }
-
 -- the sum of two places whose coordinates are multiples of 2 m is even
 even : (m p q : ℕ) → Multiple (2 * m) (coordinate p) → Multiple (2 * m) (coordinate q) → (p + q) / 2 + (p + q) / 2 ≡ p + q
-even m p q h k = double (p + q) (natAbs (pos m *ℤ s .quotient +ℤ pos 32768)) (ap natAbs exact ∙ abs-times (pos 2) (pos m *ℤ s .quotient +ℤ pos 32768))
+even m p q h k = double (p + q) (natAbs (pos m *ℤ s .quotient +ℤ pos shift)) (ap natAbs exact ∙ abs-times (pos 2) (pos m *ℤ s .quotient +ℤ pos shift))
   where
     s : Multiple (2 * m) (coordinate p +ℤ coordinate q)
     s = multiple-plus h k
 
-    exact : pos (p + q) ≡ pos 2 *ℤ (pos m *ℤ s .quotient +ℤ pos 32768)
+    exact : pos (p + q) ≡ pos 2 *ℤ (pos m *ℤ s .quotient +ℤ pos shift)
     exact =
         sym (-ℤ-+ℤ-cancel (pos (p + q)) (pos 65536)) ∙ ap (λ (z : ℤ). z +ℤ pos 65536) (sym (coordinates-add p q) ∙ s .is)
         ∙ solve (plus (times (times (number (pos 2)) (variable 0)) (variable 1)) (number (pos 65536)))
-        (times (number (pos 2)) (plus (times (variable 0) (variable 1)) (number (pos 32768))))
+        (times (number (pos 2)) (plus (times (variable 0) (variable 1)) (number (pos shift))))
         tt (pos m ∷ s .quotient ∷ [])
 
     double : (n k : ℕ) → n ≡ 2 * k → n / 2 + n / 2 ≡ n

@@ -11,13 +11,13 @@ use lib.IntN.{ℤ, pos, natAbs, subℕ, _-ℤ_}
 use Rattle.algebra.specs.Solver.{variable, number, minus, solve}
 use Rattle.algebra.specs.Absolute.{difference-cases, difference-is, abs-difference, abs-difference-is}
 use Rattle.grid.specs.declared.Place.{Place}
-use Rattle.grid.specs.Places.{greatestPlace, coordinate, coordinateOnGrid}
+use Rattle.grid.specs.Places.{greatestPlace, coordinate, coordinateOnGrid, shift}
 
 -- coordinates differ as their places do
 pub coordinates-differ : (p q : ℕ) → coordinate p -ℤ coordinate q ≡ subℕ p q
 unfolding coordinate
 coordinates-differ p q =
-    solve (minus (minus (variable 0) (number (pos 32768))) (minus (variable 1) (number (pos 32768)))) (minus (variable 0) (variable 1))
+    solve (minus (minus (variable 0) (number (pos shift))) (minus (variable 1) (number (pos shift)))) (minus (variable 0) (variable 1))
     tt (pos p ∷ pos q ∷ [])
     ∙ difference-is p q
 
@@ -36,12 +36,12 @@ pub record Held (p : Place) : Type 0 where
   pub z : p .z ≤ greatestPlace
 
 -- the absolute value of the coordinate at p, by the side of 32,768 on which p lies
-coordinate-cases : (p : ℕ) (P : ℕ → Type 0) → (p < 32768 → P (32768 - p)) → (32768 ≤ p → P (p - 32768)) → P (natAbs (coordinate p))
+coordinate-cases : (p : ℕ) (P : ℕ → Type 0) → (p < shift → P (shift - p)) → (shift ≤ p → P (p - shift)) → P (natAbs (coordinate p))
 unfolding coordinate
 coordinate-cases p P f g =
-    difference-cases p 32768 (λ (z : ℤ). P (natAbs z)) (λ h. subst P (less p h) (f h)) g
+    difference-cases p shift (λ (z : ℤ). P (natAbs z)) (λ h. subst P (less p h) (f h)) g
   where
-    less : (p : ℕ) → p < 32768 → 32768 - p ≡ suc (32768 - suc p)
+    less : (p : ℕ) → p < shift → shift - p ≡ suc (shift - suc p)
     less p h = omega arith
 
 -- two tests each of which passes where the other does are one
@@ -56,25 +56,25 @@ pub off-multiple : (p : ℕ) → (p % 32 ≡ 0 → ⊥) → false ≡ coordinate
 unfolding coordinateOnGrid
 off-multiple p h =
     coordinate-cases p (λ (n : ℕ). false ≡ eqb (n % 32) 0 && leb n 32736)
-    (λ l. simp (ne-eqb ((32768 - p) % 32) 0 (λ e. h (omega arith))))
-    (λ l. simp (ne-eqb ((p - 32768) % 32) 0 (λ e. h (omega arith))))
+    (λ l. simp (ne-eqb ((shift - p) % 32) 0 (λ e. h (omega arith))))
+    (λ l. simp (ne-eqb ((p - shift) % 32) 0 (λ e. h (omega arith))))
 
 pub off-below : (p : ℕ) → p < 32 → false ≡ coordinateOnGrid (coordinate p)
 unfolding coordinateOnGrid
 off-below p l =
     coordinate-cases p (λ (n : ℕ). false ≡ eqb (n % 32) 0 && leb n 32736)
-    (λ s. rw (lt-leb (32768 - p) 32736 (omega arith)) (sym (and-false (eqb ((32768 - p) % 32) 0))))
+    (λ s. rw (lt-leb (shift - p) 32736 (omega arith)) (sym (and-false (eqb ((shift - p) % 32) 0))))
     (λ s. absurd (apart p l s))
   where
-    apart : (p : ℕ) → p < 32 → 32768 ≤ p → ⊥
+    apart : (p : ℕ) → p < 32 → shift ≤ p → ⊥
     apart p l s = omega arith
 
 pub on-grid-is : (p : ℕ) → p % 32 ≡ 0 → 32 ≤ p → leb p 65504 ≡ coordinateOnGrid (coordinate p)
 unfolding coordinateOnGrid
 on-grid-is p h l =
     coordinate-cases p (λ (n : ℕ). leb p 65504 ≡ eqb (n % 32) 0 && leb n 32736)
-    (λ s. simp (eq-eqb ((32768 - p) % 32) 0 (omega arith), le-leb (32768 - p) 32736 (omega arith), le-leb p 65504 (omega arith)))
-    (λ s. simp (eq-eqb ((p - 32768) % 32) 0 (omega arith)) (shifted p s))
+    (λ s. simp (eq-eqb ((shift - p) % 32) 0 (omega arith), le-leb (shift - p) 32736 (omega arith), le-leb p 65504 (omega arith)))
+    (λ s. simp (eq-eqb ((p - shift) % 32) 0 (omega arith)) (shifted p s))
   where
-    shifted : (p : ℕ) → 32768 ≤ p → leb p 65504 ≡ leb (p - 32768) 32736
-    shifted p s = both-ways (leb p 65504) (leb (p - 32768) 32736) (λ t. le→leb (p - 32768) 32736 (omega (arith, leb→le p 65504 t))) (λ t. le→leb p 65504 (omega (arith, leb→le (p - 32768) 32736 t)))
+    shifted : (p : ℕ) → shift ≤ p → leb p 65504 ≡ leb (p - shift) 32736
+    shifted p s = both-ways (leb p 65504) (leb (p - shift) 32736) (λ t. le→leb (p - shift) 32736 (omega (arith, leb→le p 65504 t))) (λ t. le→leb p 65504 (omega (arith, leb→le (p - shift) 32736 t)))

@@ -6,9 +6,13 @@ use lib.Dec.{leb, eqb}
 use lib.IntN.{ℤ, pos, natAbs, _-ℤ_}
 use Rattle.grid.specs.declared.Place.{Place}
 
+-- how much more a place is than its coordinate
+abbrev pub shift : ℕ
+shift = 32768
+
 -- "Coordinates are whole numbers": code holds one as a place, the coordinate and 32,768 more, so that every u16 is a place
 unfoldable pub coordinate : ℕ → ℤ
-coordinate p = pos p -ℤ pos 32768
+coordinate p = pos p -ℤ pos shift
 
 -- the greatest place, and how far apart two coordinates are at most
 abbrev pub greatestPlace : ℕ

@@ -4,14 +4,17 @@ ghost use Prim.Native.Nat.{_+_, _/_};
 ghost use lib.Dec.{eqb};
 ghost use Rattle.grid.specs.Places.{coordinate, pointOf, coordinateOnGrid, onGrid, samePlace, isHalfway, halfwayOf};
 
-// A vertex's place: each coordinate and 32,768 more.
+// How much more a place is than its coordinate: as much as makes every i16 a u16.
+pub const SHIFT: u32 = 32768;
+
+// A vertex's place: each coordinate and `SHIFT` more.
 pub struct Place {
     pub x: u16,
     pub y: u16,
     pub z: u16,
 }
 
-// 32,768 is a multiple of 32, so a coordinate is on the grid exactly if its place is a multiple of 32 from 32 to 65,504.
+// `SHIFT` is a multiple of 32, so a coordinate is on the grid exactly if its place is a multiple of 32 from 32 to 65,504.
 fn coordinate_on_grid(p: u16) -> bool
     ensures { λ r. ⌜ r ≡ coordinateOnGrid (coordinate p) ⌝ }
 {

@@ -9,7 +9,7 @@ use mir.Syntax.{w16}
 use mir.Val.{toZ}
 use borrow.Author.Tests.{lt-ltb, le-ltb, ltb-true, ltb-false}
 use Rattle.laws.specs.Below.{either}
-use Rattle.grid.specs.Places.{coordinate}
+use Rattle.grid.specs.Places.{coordinate, shift}
 use Rattle.stored.specs.Layout.{placeOf, storedOf}
 use Rattle.stored.specs.Fitting.{U16}
 
@@ -26,19 +26,19 @@ stored-fits place = omega arith
 -- the place that is read
 pub place-read : (n : ℕ) → U16 n → coordinate (placeOf n) ≡ toZ w16 n
 unfolding coordinate
-place-read n h = ⊎-elim (λ t. low (ltb-true n 32768 t)) (λ f. high (ltb-false n 32768 f)) (either (ltb n 32768))
+place-read n h = ⊎-elim (λ t. low (ltb-true n shift t)) (λ f. high (ltb-false n shift f)) (either (ltb n shift))
   where
-    low : n < 32768 → coordinate (placeOf n) ≡ toZ w16 n
+    low : n < shift → coordinate (placeOf n) ≡ toZ w16 n
     low l =
-        let up : placeOf n ≡ n + 32768 = omega arith in
-        let back : n + 32768 - 32768 ≡ n = omega arith in
-        rw (up, le-ltb (n + 32768) 32768 (omega arith), lt-ltb n 32768 l) (ap pos back)
+        let up : placeOf n ≡ n + shift = omega arith in
+        let back : n + shift - shift ≡ n = omega arith in
+        rw (up, le-ltb (n + shift) shift (omega arith), lt-ltb n shift l) (ap pos back)
 
-    high : 32768 ≤ n → coordinate (placeOf n) ≡ toZ w16 n
+    high : shift ≤ n → coordinate (placeOf n) ≡ toZ w16 n
     high g =
-        let down : placeOf n ≡ n - 32768 = omega arith in
-        let back : 32768 - suc (n - 32768) ≡ 65536 - suc n = omega arith in
-        rw (down, lt-ltb (n - 32768) 32768 (omega arith), le-ltb n 32768 g) (ap negsuc back)
+        let down : placeOf n ≡ n - shift = omega arith in
+        let back : shift - suc (n - shift) ≡ 65536 - suc n = omega arith in
+        rw (down, lt-ltb (n - shift) shift (omega arith), le-ltb n shift g) (ap negsuc back)
 
 -- the place that is written
 pub place-written : (place : ℕ) → U16 place → toZ w16 (storedOf place) ≡ coordinate place

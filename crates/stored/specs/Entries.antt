@@ -13,8 +13,7 @@ use Rattle.laws.specs.Numbers.{number, numberBytes, number-bytes, bytes-number,
 use Rattle.stored.specs.declared.Header.{Header}
 use Rattle.stored.specs.declared.Vertex.{Vertex}
 use Rattle.stored.specs.declared.Record.{Record}
-use Rattle.stored.specs.declared.Selection.{Selection}
-use Rattle.stored.specs.Layout.{headerWidth, vertexWidth, recordWidth, orNone, storedOrNone, byteAt, u16At, u32At, u16Bytes, u32Bytes, placeOf, storedOf, marked, markBytes, rightMark, headerOf, headerBytes, vertexFrom, vertexBytes, recordFrom, recordBytes}
+use Rattle.stored.specs.Layout.{headerWidth, vertexWidth, recordWidth, orNone, storedOrNone, byteAt, u16At, u32At, u16Bytes, u32Bytes, placeOf, storedOf, marked, markBytes, rightMark, headerOf, headerBytes, vertexFrom, vertexBytes, recordFrom, recordBytes, edgeAt, marksAt, flagAt, generationAt, firstChildAt}
 use Rattle.stored.specs.Fitting.{U16, U32, OrNone, HeaderFits, VertexFits, RecordFits, stored-or-none, or-none-stored, stored-number-fits, stored-same, u16-fits}
 use Rattle.stored.specs.Coordinate.{stored-place, place-stored, stored-fits}
 
@@ -53,9 +52,6 @@ header-is-bytes h =
     let named = with2 (with4 (mark-is-bytes 66 (lit< tt)) (h .job)) (h .round) in
     let counted = with2 (with2 (with2 (with2 named (h .«base_vertices»)) (h .vertices)) (h .«base_records»)) (h .records) in
     with1 counted (lit< tt)
-
-pub heading-is-bytes : (h : Selection) → Bytes (markBytes 83 ++ u32Bytes (h .job) ++ u16Bytes (h .round) ++ u16Bytes (h .count))
-heading-is-bytes h = with2 (with2 (with4 (mark-is-bytes 83 (lit< tt)) (h .job)) (h .round)) (h .count)
 
 pub vertex-is-bytes : (v : Vertex) → Bytes (vertexBytes v)
 unfolding vertexBytes
@@ -225,25 +221,25 @@ module _ (s : List ℕ) (b : Bytes s) where
         number-written-again 2 (omega arith),
         number-written-again 4 (omega arith),
         number-written-again 6 (omega arith),
-        number-written-again 15 (omega arith),
-        take-one 8 s 0 (omega arith),
-        take-one 9 s 0 (omega arith),
-        take-one 10 s 0 (omega arith),
-        take-one 11 s 0 (omega arith),
-        take-one 12 s 0 (omega arith),
-        take-one 13 s 0 (omega arith),
-        take-one 14 s 0 (omega arith),
+        number-written-again firstChildAt (omega arith),
+        take-one edgeAt s 0 (omega arith),
+        take-one marksAt s 0 (omega arith),
+        take-one (marksAt + 1) s 0 (omega arith),
+        take-one (marksAt + 2) s 0 (omega arith),
+        take-one (marksAt + 3) s 0 (omega arith),
+        take-one flagAt s 0 (omega arith),
+        take-one generationAt s 0 (omega arith),
         take-run 2 2 0 s,
         take-run 4 2 0 s,
         take-run 6 2 0 s,
-        take-run 8 1 0 s,
-        take-run 9 1 0 s,
-        take-run 10 1 0 s,
-        take-run 11 1 0 s,
-        take-run 12 1 0 s,
-        take-run 13 1 0 s,
-        take-run 14 1 0 s,
-        take-run 15 2 0 s,
+        take-run edgeAt 1 0 s,
+        take-run marksAt 1 0 s,
+        take-run (marksAt + 1) 1 0 s,
+        take-run (marksAt + 2) 1 0 s,
+        take-run (marksAt + 3) 1 0 s,
+        take-run flagAt 1 0 s,
+        take-run generationAt 1 0 s,
+        take-run firstChildAt 2 0 s,
       )
 
   -- the mark, where it is right

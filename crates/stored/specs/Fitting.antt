@@ -1,16 +1,16 @@
 -- Values whose numbers fit their stored widths, and arrays that are as long as they are declared: what a reader gives, and what a
 -- writer keeps whole.
-use mathlib.Core.Path.{_≡_, refl, sym, subst}
+use mathlib.Core.Path.{_≡_, refl, sym}
 use mathlib.Core.Bool.{Bool, true, false, cond, _&&_}
 use mathlib.Core.Logic.{_⊎_, inl, inr, ⊎-elim}
 use Prim.Native.Nat.{ℕ, zero, suc, _+_, _-_, _*_, _<_}
 use native.Mathlib.Omega.{arith}
-use mathlib.Core.List.{List, [], _∷_}
+use mathlib.Core.List.{List, []}
 use lib.ListN.{length, getD, take, drop}
 use lib.Seq.{sets}
 use lib.Dec.{eqb, ltb, leb}
 use borrow.Author.Tests.{eq-eqb, ne-eqb, eqb-true, eqb-false}
-use Rattle.laws.specs.Below.{either, list-length, list-at}
+use Rattle.laws.specs.Below.{either}
 use Rattle.laws.specs.Lists.{Bytes, bytes-none, bytes-cons, bytes-drop, bytes-take, bytes-sets}
 use Rattle.laws.specs.Numbers.{number, number-below}
 use Rattle.stored.specs.declared.Table.{Table}
@@ -18,8 +18,7 @@ use Rattle.stored.specs.declared.Layout.{Layout}
 use Rattle.stored.specs.declared.Header.{Header}
 use Rattle.stored.specs.declared.Vertex.{Vertex}
 use Rattle.stored.specs.declared.Record.{Record}
-use Rattle.stored.specs.declared.Selection.{Selection}
-use Rattle.stored.specs.Layout.{none, storedNone, orNone, storedOrNone, u16At, allVertices, allRecords, headerOf, vertexFrom, cornersFrom, recordFrom, heldIn, baseInto, grownInto, vertexIn, recordIn, layoutOf, Mesh, meshOf}
+use Rattle.stored.specs.Layout.{none, storedNone, orNone, storedOrNone, u16At, headerOf, vertexFrom, cornersFrom, recordFrom, heldIn, baseInto, grownInto, vertexIn, recordIn, Mesh, edgeAt, marksAt, flagAt, generationAt, firstChildAt}
 
 -- A u16 and a u32, as the mesh stores them.
 abbrev pub U16 : ℕ → Type 0
@@ -67,14 +66,6 @@ pub record MeshFits (m : Mesh) : Type 0 where
   pub counts : Counted m
   pub vertices : (k : ℕ) (d : Vertex) → k < length (m .vertices) → VertexFits (getD (m .vertices) k d)
   pub records : (k : ℕ) (d : Record) → k < length (m .records) → RecordFits (getD (m .records) k d)
-
--- A selection's heading, with the record numbers that it is to name.
-pub record SelectionFits (h : Selection) (numbers : List ℕ) : Type 0 where
-  pub job : U32 (h .job)
-  pub round : U16 (h .round)
-  pub count : length numbers ≡ h .count
-  pub few : U16 (h .count)
-  pub named : (k : ℕ) → k < length numbers → U16 (getD numbers k 0)
 
 -- ---- none, stored and read: each undoes the other
 
@@ -149,12 +140,12 @@ module _ (s : List ℕ) (b : Bytes s) where
       record {
         fourCorners = refl;
         corners = λ k. corner k;
-        edge = b .byte 8;
+        edge = b .byte edgeAt;
         fourMarks = refl;
-        marks = bytes-cons (b .byte 9) (bytes-cons (b .byte 10) (bytes-cons (b .byte 11) (bytes-cons (b .byte 12) bytes-none)));
-        flag = b .byte 13;
-        generation = b .byte 14;
-        firstChild = or-none-fits (u16At s 15) (u16-fits 15);
+        marks = bytes-cons (b .byte marksAt) (bytes-cons (b .byte (marksAt + 1)) (bytes-cons (b .byte (marksAt + 2)) (bytes-cons (b .byte (marksAt + 3)) bytes-none)));
+        flag = b .byte flagAt;
+        generation = b .byte generationAt;
+        firstChild = or-none-fits (u16At s firstChildAt) (u16-fits firstChildAt);
       }
     where
       corner : (k : ℕ) → OrNone (getD (cornersFrom s) k 0)
@@ -198,20 +189,3 @@ module _ (l : Layout) (base grown : List ℕ) (b : Bytes base) (g : Bytes grown)
   pub record-fits : RecordFits (recordIn l base grown i)
   unfolding recordIn
   record-fits = record-from-fits (heldIn (l .format .«record_width») (l .records) base grown i) (held-is-bytes (l .format .«record_width») (l .records) base grown i b g)
-
-pub mesh-fits : (s : List ℕ) → Bytes s → MeshFits (meshOf s)
-unfolding meshOf headerOf
-mesh-fits s b =
-    let l : Layout = layoutOf (headerOf s) in
-    record {
-      counts = record {
-        header = header-fits s b;
-        vertexCount = list-length (vertexIn l s s) (allVertices s);
-        recordCount = list-length (recordIn l s s) (allRecords s);
-      };
-      vertices = λ k d lt. subst VertexFits (sym (list-at (vertexIn l s s) (allVertices s) k d (below (list-length (vertexIn l s s) (allVertices s)) lt))) (vertex-fits l s s b b k);
-      records = λ k d lt. subst RecordFits (sym (list-at (recordIn l s s) (allRecords s) k d (below (list-length (recordIn l s s) (allRecords s)) lt))) (record-fits l s s b b k);
-    }
-  where
-    below : {k n m : ℕ} → n ≡ m → k < n → k < m
-    below e l = omega arith

@@ -9,6 +9,7 @@ use lib.Dec.{leb, ltb, eqb}
 use Rattle.laws.specs.Below.{listBelow}
 use Rattle.laws.specs.Lists.{joined}
 use Rattle.laws.specs.Numbers.{number, numberBytes}
+use Rattle.grid.specs.Places.{shift}
 use Rattle.stored.specs.declared.Limits.{Limits}
 use Rattle.stored.specs.declared.Format.{Format}
 use Rattle.stored.specs.declared.Table.{Table}
@@ -39,10 +40,10 @@ u32Bytes n = numberBytes 4 n
 -- The place of a coordinate that is stored as the number n, and the number that a place's coordinate is stored as. In two's complement
 -- of 16 bits the two are the same sum (`Coordinate` says what it means).
 abbrev pub placeOf : ℕ → ℕ
-placeOf n = (n + 32768) % 65536
+placeOf n = (n + shift) % 65536
 
 abbrev pub storedOf : ℕ → ℕ
-storedOf place = (place + 32768) % 65536
+storedOf place = (place + shift) % 65536
 
 -- In memory, for no parent and for no child.
 abbrev pub none : ℕ
@@ -71,6 +72,23 @@ vertexWidth = 10
 
 abbrev pub recordWidth : ℕ
 recordWidth = 17
+
+-- Where a record's fields stand after its corners: "refinement edge (u8), marks of faces 0 to 3 (u8 each), flag, generation, number of the
+-- first child".
+abbrev pub edgeAt : ℕ
+edgeAt = 8
+
+abbrev pub marksAt : ℕ
+marksAt = 9
+
+abbrev pub flagAt : ℕ
+flagAt = 13
+
+abbrev pub generationAt : ℕ
+generationAt = 14
+
+abbrev pub firstChildAt : ℕ
+firstChildAt = 15
 
 abbrev pub version1 : Format
 version1 = record { «vertex_width» = vertexWidth; «record_width» = recordWidth }
@@ -161,19 +179,19 @@ abbrev pub cornersFrom : List ℕ → List ℕ
 cornersFrom s = orNone (u16At s 0) ∷ orNone (u16At s 2) ∷ orNone (u16At s 4) ∷ orNone (u16At s 6) ∷ []
 
 abbrev pub marksFrom : List ℕ → List ℕ
-marksFrom s = byteAt s 9 ∷ byteAt s 10 ∷ byteAt s 11 ∷ byteAt s 12 ∷ []
+marksFrom s = byteAt s marksAt ∷ byteAt s (marksAt + 1) ∷ byteAt s (marksAt + 2) ∷ byteAt s (marksAt + 3) ∷ []
 
 unfoldable pub recordFrom : List ℕ → Record
 recordFrom s =
     record {
       piece = record {
         corners = cornersFrom s;
-        edge = byteAt s 8;
+        edge = byteAt s edgeAt;
         marks = marksFrom s;
-        flag = byteAt s 13;
-        generation = byteAt s 14;
+        flag = byteAt s flagAt;
+        generation = byteAt s generationAt;
       };
-      «first_child» = orNone (u16At s 15);
+      «first_child» = orNone (u16At s firstChildAt);
     }
 
 unfoldable pub recordBytes : Record → List ℕ

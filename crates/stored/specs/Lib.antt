@@ -6,5 +6,4 @@ pub mod Coordinate
 pub mod Entries
 pub mod Tables
 pub mod Meshes
-pub mod Selections
 pub mod Worked

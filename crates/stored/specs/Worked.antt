@@ -13,7 +13,7 @@ use Rattle.laws.specs.Below.{either, listBelow}
 use Rattle.laws.specs.Lists.{Bytes, joined-below, sets-run, sets-after}
 use Rattle.laws.specs.Numbers.{number, number-two}
 use Rattle.stored.specs.declared.Header.{Header}
-use Rattle.stored.specs.Layout.{headerWidth, vertexWidth, recordWidth, placeOf, orNone, meshLength, vertexFrom, vertexBytes, recordFrom, recordBytes, heldIn, vertexIn, recordIn, layoutOf, working, vertexPart, recordPart, headerBytes, assembled, meshBytes}
+use Rattle.stored.specs.Layout.{headerWidth, vertexWidth, recordWidth, placeOf, orNone, meshLength, vertexFrom, vertexBytes, recordFrom, recordBytes, heldIn, vertexIn, recordIn, layoutOf, working, vertexPart, recordPart, headerBytes, assembled, meshBytes, edgeAt, marksAt, flagAt, generationAt, firstChildAt}
 use Rattle.stored.specs.Held.{held-base, held-none}
 use Rattle.stored.specs.Meshes.{working-vertex, working-record, front-entry, vertex-at, record-at}
 
@@ -58,12 +58,12 @@ module _ (z : List ℕ) (h : Zeros z) where
       record {
         piece = record {
           corners = orNone (zero-number 0 i) ∷ orNone (zero-number 2 i) ∷ orNone (zero-number 4 i) ∷ orNone (zero-number 6 i) ∷ [];
-          edge = h 8 i;
-          marks = h 9 i ∷ h 10 i ∷ h 11 i ∷ h 12 i ∷ [];
-          flag = h 13 i;
-          generation = h 14 i;
+          edge = h edgeAt i;
+          marks = h marksAt i ∷ h (marksAt + 1) i ∷ h (marksAt + 2) i ∷ h (marksAt + 3) i ∷ [];
+          flag = h flagAt i;
+          generation = h generationAt i;
         };
-        «first_child» = orNone (zero-number 15 i);
+        «first_child» = orNone (zero-number firstChildAt i);
       }
 
 -- ---- the first n entries of t, copied to the beginning of m zeros

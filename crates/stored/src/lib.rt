@@ -15,6 +15,17 @@ pub const VERTEX_WIDTH: usize = 10;
 
 pub const RECORD_WIDTH: usize = 17;
 
+// Where a record's fields stand after its corners: the marks of faces 0 to 3 one after the other.
+pub const EDGE_AT: usize = 8;
+
+pub const MARKS_AT: usize = 9;
+
+pub const FLAG_AT: usize = 13;
+
+pub const GENERATION_AT: usize = 14;
+
+pub const FIRST_CHILD_AT: usize = 15;
+
 // "At most 1,024 vertices and 3,072 records."
 pub const VERTICES: usize = 1024;
 

@@ -69,9 +69,9 @@ pub fn vertex_bytes(v: Vertex) -> [u8; stored::VERTEX_WIDTH]
     let place = v.place;
     let p = stored_or_none(v.p);
     let q = stored_or_none(v.q);
-    let x = (place.x as u32 + 32768) % 65536;
-    let y = (place.y as u32 + 32768) % 65536;
-    let z = (place.z as u32 + 32768) % 65536;
+    let x = (place.x as u32 + grid::SHIFT) % 65536;
+    let y = (place.y as u32 + grid::SHIFT) % 65536;
+    let z = (place.z as u32 + grid::SHIFT) % 65536;
     let front = number_bytes(x, y, z, p);
     [
         front[0],

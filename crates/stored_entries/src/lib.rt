@@ -86,7 +86,7 @@ fn place_of(n: u32) -> u16
     requires { ⌜ n < 65536 ⌝ }
     ensures { λ r. ⌜ r ≡ placeOf n ⌝ }
 {
-    ((n + 32768) % 65536) as u16
+    ((n + grid::SHIFT) % 65536) as u16
 }
 
 fn place(s: &[u8], at: usize) -> u16
@@ -217,10 +217,10 @@ fn marks_from(entry: &[u8]) -> [u8; 4]
     ensures { λ r. ⌜ r ≡ marksFrom (now (entry .entry)) ⌝ }
 {
     [
-        slices::byte(entry, 9),
-        slices::byte(entry, 10),
-        slices::byte(entry, 11),
-        slices::byte(entry, 12),
+        slices::byte(entry, stored::MARKS_AT),
+        slices::byte(entry, stored::MARKS_AT + 1),
+        slices::byte(entry, stored::MARKS_AT + 2),
+        slices::byte(entry, stored::MARKS_AT + 3),
     ]
 }
 
@@ -229,10 +229,10 @@ fn short_record(entry: &[u8]) -> Record
     ensures { λ r. ⌜ r ≡ recordFrom (now (entry .entry)) ⌝ }
 {
     let corners = short_corners(entry);
-    let edge = slices::byte(entry, 8);
+    let edge = slices::byte(entry, stored::EDGE_AT);
     let marks = marks_from(entry);
-    let flag = slices::byte(entry, 13);
-    let generation = slices::byte(entry, 14);
+    let flag = slices::byte(entry, stored::FLAG_AT);
+    let generation = slices::byte(entry, stored::GENERATION_AT);
     let piece = Piece {
         corners: corners,
         edge: edge,
@@ -242,7 +242,7 @@ fn short_record(entry: &[u8]) -> Record
     };
     Record {
         piece: piece,
-        first_child: number_or_none(entry, 15),
+        first_child: number_or_none(entry, stored::FIRST_CHILD_AT),
     }
 }
 
@@ -254,14 +254,19 @@ fn whole_record(entry: &[u8]) -> Record
     let corners = whole_corners(entry);
     let piece = Piece {
         corners: corners,
-        edge: entry[8],
-        marks: [entry[9], entry[10], entry[11], entry[12]],
-        flag: entry[13],
-        generation: entry[14],
+        edge: entry[stored::EDGE_AT],
+        marks: [
+            entry[stored::MARKS_AT],
+            entry[stored::MARKS_AT + 1],
+            entry[stored::MARKS_AT + 2],
+            entry[stored::MARKS_AT + 3],
+        ],
+        flag: entry[stored::FLAG_AT],
+        generation: entry[stored::GENERATION_AT],
     };
     Record {
         piece: piece,
-        first_child: or_none(two_of(entry, 15)),
+        first_child: or_none(two_of(entry, stored::FIRST_CHILD_AT)),
     }
 }
 
@@ -294,7 +299,7 @@ pub fn corner_in<'a>(l: Layout, base: &'a [u8], grown: &'a [u8], i: usize, k: u8
 pub fn edge_in<'a>(l: Layout, base: &'a [u8], grown: &'a [u8], i: usize) -> u8
     ensures { λ r. ⌜ r ≡ recordIn l (now (base .entry)) (now (grown .entry)) i .piece .edge ⌝ }
 {
-    slices::byte(record_held(l, base, grown, i), 8)
+    slices::byte(record_held(l, base, grown, i), stored::EDGE_AT)
 }
 
 pub fn marks_in<'a>(l: Layout, base: &'a [u8], grown: &'a [u8], i: usize) -> [u8; 4]
@@ -307,7 +312,10 @@ pub fn mark_in<'a>(l: Layout, base: &'a [u8], grown: &'a [u8], i: usize, j: u8) 
     ensures { λ r. ⌜ r ≡ mark (shapeOf (recordIn l (now (base .entry)) (now (grown .entry)) i .piece)) j ⌝ }
 {
     if j < 4 {
-        return slices::byte(record_held(l, base, grown, i), 9 + (j as usize));
+        return slices::byte(
+            record_held(l, base, grown, i),
+            stored::MARKS_AT + (j as usize),
+        );
     }
     0
 }
@@ -315,17 +323,17 @@ pub fn mark_in<'a>(l: Layout, base: &'a [u8], grown: &'a [u8], i: usize, j: u8) 
 pub fn flag_in<'a>(l: Layout, base: &'a [u8], grown: &'a [u8], i: usize) -> u8
     ensures { λ r. ⌜ r ≡ recordIn l (now (base .entry)) (now (grown .entry)) i .piece .flag ⌝ }
 {
-    slices::byte(record_held(l, base, grown, i), 13)
+    slices::byte(record_held(l, base, grown, i), stored::FLAG_AT)
 }
 
 pub fn generation_in<'a>(l: Layout, base: &'a [u8], grown: &'a [u8], i: usize) -> u8
     ensures { λ r. ⌜ r ≡ recordIn l (now (base .entry)) (now (grown .entry)) i .piece .generation ⌝ }
 {
-    slices::byte(record_held(l, base, grown, i), 14)
+    slices::byte(record_held(l, base, grown, i), stored::GENERATION_AT)
 }
 
 pub fn first_child_in<'a>(l: Layout, base: &'a [u8], grown: &'a [u8], i: usize) -> u32
     ensures { λ r. ⌜ r ≡ recordIn l (now (base .entry)) (now (grown .entry)) i .«first_child» ⌝ }
 {
-    number_or_none(record_held(l, base, grown, i), 15)
+    number_or_none(record_held(l, base, grown, i), stored::FIRST_CHILD_AT)
 }

@@ -75,10 +75,10 @@ pub fn copy_tables(mesh: &[u8], h: Header, base: &mut [u8], grown: &mut [u8])
     ensures { λ _. ⌜ now (base .exit) ≡ sets (now (base .entry)) 0 (vertexPart h (now (mesh .entry))) ⌝ }
     ensures { λ _. ⌜ now (grown .exit) ≡ sets (now (grown .entry)) 0 (recordPart h (now (mesh .entry))) ⌝ }
 {
-    let wide = stored::VERTEX_WIDTH * (h.vertices as usize);
-    let deep = stored::RECORD_WIDTH * (h.records as usize);
-    let vertices = slices::part(mesh, stored::HEADER_WIDTH, wide);
-    let records = slices::part(mesh, stored::HEADER_WIDTH + wide, deep);
+    let vertex_bytes = stored::VERTEX_WIDTH * (h.vertices as usize);
+    let record_bytes = stored::RECORD_WIDTH * (h.records as usize);
+    let vertices = slices::part(mesh, stored::HEADER_WIDTH, vertex_bytes);
+    let records = slices::part(mesh, stored::HEADER_WIDTH + vertex_bytes, record_bytes);
     slices_written::put(base, 0, vertices);
     slices_written::put(grown, 0, records);
 }

@@ -20,4 +20,4 @@ returns-2 : tie.Need-returns-2
 returns-2 c = ap (λ (z : ℤ). placeFor z) (sym (List·getD-eq-default (now (c .before .args .coordinates)) (pos 0) (c .if1 .left)))
 
 pub place-at-spec : {M : Type 1} → statement M
-place-at-spec = tie.close (tie.spec (λ c. search needs) (λ c. search needs) (λ c κs. search needs) returns returns-2)
+place-at-spec = tie.close (tie.spec (λ c. search needs) (λ c. search needs) (λ c κs. search needs) (λ c. search needs) returns returns-2)

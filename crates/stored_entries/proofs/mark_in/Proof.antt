@@ -7,11 +7,11 @@ use Prim.Native.Nat.{ℕ, zero, suc, _+_, _<_}
 use native.Mathlib.Omega.{arith}
 use lib.ListN.{getD, List·getD-eq-default}
 use denote.Ref.{now}
-use Rattle.stored.specs.Layout.{byteAt, heldIn, recordIn, marksFrom, recordFrom}
+use Rattle.stored.specs.Layout.{byteAt, heldIn, recordIn, marksAt, marksFrom, recordFrom}
 use Rattle.stored_entries.proofs.mark_in.Statement.{statement}
 use Rattle.stored_entries.proofs.mark_in.Tie as tie
 
-of-face : (s : List ℕ) (j : ℕ) → j < 4 → byteAt s (9 + j) ≡ getD (marksFrom s) j 0
+of-face : (s : List ℕ) (j : ℕ) → j < 4 → byteAt s (marksAt + j) ≡ getD (marksFrom s) j 0
 of-face s zero l = refl
 of-face s (suc zero) l = refl
 of-face s (suc (suc zero)) l = refl
@@ -23,7 +23,7 @@ unfolding recordIn recordFrom
 returns c =
     let a = c .before .before .before .before .before .args in
     c .byte .ensures
-    ∙ ap (λ (s : List ℕ). byteAt s (9 + a .j)) (c .before .record-held .ensures)
+    ∙ ap (λ (s : List ℕ). byteAt s (marksAt + a .j)) (c .before .record-held .ensures)
     ∙ of-face (heldIn (a .l .format .«record_width») (a .l .records) (now (a .base)) (now (a .grown)) (a .i)) (a .j) (c .before .before .if1 .taken)
 
 returns-2 : tie.Need-returns-2
