@@ -35,7 +35,7 @@ pub fn has_parents<'a>(
     parents.q == ends.higher
 }
 
-// The key of a pair.
+// The key of a pair. The factor moves pairs of one sum apart, and is odd, so that modulo a power of two the lower end counts in full.
 fn pair_key(ends: Ends) -> usize
     ensures { λ r. ⌜ r ≡ pairKey ends ⌝ }
 {

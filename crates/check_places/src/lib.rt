@@ -15,7 +15,7 @@ ghost use Rattle.check_refusals.specs.Bounded.{Room, orBeyond};
 ghost use Rattle.check_parents.specs.Pairs.{pairHeads, keyOf};
 ghost use Rattle.check_places.specs.Kept.{placeHeads, placeKey, placeKeyOf, VerticesKept, placeAlong};
 
-// How many keys places have.
+// How many keys places have: a prime, so that places that are far apart on the grid have keys of their own too.
 const PLACE_HEADS: usize = 1021;
 
 fn bad_base_vertex(v: Vertex) -> bool
@@ -38,6 +38,7 @@ fn stands_at<'a>(l: Layout, base: &'a [u8], grown: &'a [u8], u: usize, place: Pl
     grid::same_place(there, place)
 }
 
+// The key of a place, in steps of the grid. The factors differ, so that a step along each axis leads to another key.
 fn place_key(place: Place) -> usize
     ensures { λ r. ⌜ r ≡ placeKey place ⌝ }
 {

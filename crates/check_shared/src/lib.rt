@@ -88,7 +88,8 @@ fn most_under(top: u32, f: Face) -> u32
     greater(x, only_under(top, f.c))
 }
 
-// A face's key is made of its corners in falling order.
+// A face's key is made of its corners in falling order. The factors move faces of one sum apart, and are odd, so that modulo a power of two every
+// corner counts in full.
 pub fn face_key(f: Face) -> usize
     ensures { λ r. ⌜ r ≡ keyOf f ⌝ }
 {
