@@ -19,9 +19,9 @@ use Rattle.laws.specs.Counts.{Counting, countsBelow, counts-is}
 
 -- One more at both children of record r, if it is cut.
 unfoldable pub childrenCounted : List ℕ → Record → List ℕ
-childrenCounted times r =
-    let both = countedAt (countedAt times (r .«first_child»)) (r .«first_child» + 1) in
-    cond (uncut r) times both
+childrenCounted children r =
+    let both = countedAt (countedAt children (r .«first_child»)) (r .«first_child» + 1) in
+    cond (uncut r) children both
 
 -- A number is at most one of two that follow each other.
 one-of-two : (a x : ℕ) → bit (eqb x a) + bit (eqb x (a + 1)) ≡ bit (eqb a x || eqb (a + 1) x)
@@ -63,26 +63,26 @@ pub children-counting : (at : ℕ → Record) → Counting (λ t n. childrenCoun
 children-counting at = record { long = λ t k. children-long t (at k); more = λ t k x l s. children-more t (at k) x l s }
 
 -- The table of all records.
-abbrev pub timesIn : Tables → List ℕ
-timesIn m = countsBelow (λ t n. childrenCounted t (m .recordAt n)) (replicate (limits .records) 0) (allRecords m)
+abbrev pub childrenIn : Tables → List ℕ
+childrenIn m = countsBelow (λ t n. childrenCounted t (m .recordAt n)) (replicate (limits .records) 0) (allRecords m)
 
 -- What it says of record c.
-times-is : (m : Tables) (c : ℕ) → allRecords m ≤ limits .records → c < allRecords m → getD (timesIn m) c 0 ≡ countBelow (allRecords m) (λ n. isChildOf (m .recordAt n) c)
-times-is m c room l =
+children-is : (m : Tables) (c : ℕ) → allRecords m ≤ limits .records → c < allRecords m → getD (childrenIn m) c 0 ≡ countBelow (allRecords m) (λ n. isChildOf (m .recordAt n) c)
+children-is m c room l =
     counts-is (λ t n. childrenCounted t (m .recordAt n)) (λ n k. isChildOf (m .recordAt n) k) (children-counting (m .recordAt)) (limits .records) (allRecords m) c (omega arith) (omega arith)
 
 -- By the table: a record beyond the base whose count is not 1, and a record that is refused.
 unfoldable pub notChildOfOneBy : ℕ → List ℕ → ℕ → Bool
-notChildOfOneBy base times c = leb base c && not (eqb (getD times c 0) 1)
+notChildOfOneBy base children c = leb base c && not (eqb (getD children c 0) 1)
 
 unfoldable pub badRecordBy : Tables → List ℕ → ℕ → Bool
-badRecordBy m times n = badCut m n || notChildOfOneBy (baseRecords m) times n || tooDeep (pieceAt m n)
+badRecordBy m children n = badCut m n || notChildOfOneBy (baseRecords m) children n || tooDeep (pieceAt m n)
 
-bad-record-is : (m : Tables) (n : ℕ) → allRecords m ≤ limits .records → n < allRecords m → badRecordBy m (timesIn m) n ≡ badRecord m n
+bad-record-is : (m : Tables) (n : ℕ) → allRecords m ≤ limits .records → n < allRecords m → badRecordBy m (childrenIn m) n ≡ badRecord m n
 unfolding badRecordBy notChildOfOneBy badRecord notChildOfOne
-bad-record-is m n room l = rw (times-is m n room l)
+bad-record-is m n room l = rw (children-is m n room l)
 
 -- The table refuses what the rule refuses.
-pub any-bad-record-is : (m : Tables) (times : List ℕ) → Room (m .header) → times ≡ timesIn m → anyBelow (allRecords m) (badRecordBy m times) ≡ anyBelow (allRecords m) (badRecord m)
-any-bad-record-is m times room is =
-    any-same (allRecords m) (badRecordBy m times) (badRecord m) (λ n l. rw is (bad-record-is m n (room .records) l))
+pub any-bad-record-is : (m : Tables) (children : List ℕ) → Room (m .header) → children ≡ childrenIn m → anyBelow (allRecords m) (badRecordBy m children) ≡ anyBelow (allRecords m) (badRecord m)
+any-bad-record-is m children room is =
+    any-same (allRecords m) (badRecordBy m children) (badRecord m) (λ n l. rw is (bad-record-is m n (room .records) l))

@@ -21,9 +21,9 @@ use Rattle.laws.specs.Counts.{countsBelow, marked, counted-marked, Marking, cou
 
 -- One more at the vertex halfway on record n's refinement edge, if the record is cut.
 unfoldable pub midpointCounted : Tables → List ℕ → ℕ → List ℕ
-midpointCounted m used n =
-    let more = countedAt used (vertexWith m (refinementEnds (pieceAt m n))) in
-    cond (isLeaf m n) used more
+midpointCounted m midpoints n =
+    let more = countedAt midpoints (vertexWith m (refinementEnds (pieceAt m n))) in
+    cond (isLeaf m n) midpoints more
 
 pub midpoint-marking : (m : Tables) → Marking (midpointCounted m) (λ n x. isCut m n && eqb (vertexWith m (refinementEnds (pieceAt m n))) x)
 unfolding midpointCounted
@@ -39,8 +39,8 @@ midpoint-marking m = record { long = long; marks = marks }
         ⊎-elim (λ u. rw u (sym (or-false (marked t x)))) (λ f. rw f (counted-marked t w x l)) (either (isLeaf m n))
 
 -- The table of all records.
-abbrev pub usedIn : Tables → List ℕ
-usedIn m = countsBelow (midpointCounted m) (replicate (limits .vertices) 0) (allRecords m)
+abbrev pub midpointsIn : Tables → List ℕ
+midpointsIn m = countsBelow (midpointCounted m) (replicate (limits .vertices) 0) (allRecords m)
 
 -- ---- vertices with the same parents
 
@@ -80,7 +80,7 @@ module _ (m : Tables) (v : ℕ) (made : leb (baseVertices m) v ≡ true) (within
       (either (hasParents m ends v))
 
   -- By the table: v is halfway on some cut record's refinement edge if the first with its parents has been counted.
-  no-midpoint-made : Room (m .header) → eqb (getD (usedIn m) (vertexWith m own) 0) 0 ≡ not (anyBelow (allRecords m) (isMidpointOf m v))
+  no-midpoint-made : Room (m .header) → eqb (getD (midpointsIn m) (vertexWith m own) 0) 0 ≡ not (anyBelow (allRecords m) (isMidpointOf m v))
   unfolding isMidpointOf
   no-midpoint-made room =
       let P : ℕ → ℕ → Bool = λ n x. isCut m n && eqb (vertexWith m (refinementEnds (pieceAt m n))) x in
@@ -91,14 +91,14 @@ module _ (m : Tables) (v : ℕ) (made : leb (baseVertices m) v ≡ true) (within
 
 -- By the table: a made vertex whose parents' first vertex has not been counted.
 unfoldable pub noMidpointBy : Tables → List ℕ → ℕ → Bool
-noMidpointBy m used v = leb (baseVertices m) v && eqb (getD used (vertexWith m (parentEnds (m .vertexAt v))) 0) 0
+noMidpointBy m midpoints v = leb (baseVertices m) v && eqb (getD midpoints (vertexWith m (parentEnds (m .vertexAt v))) 0) 0
 
-no-midpoint-is : (m : Tables) (v : ℕ) → Room (m .header) → v < allVertices m → noMidpointBy m (usedIn m) v ≡ noMidpoint m v
+no-midpoint-is : (m : Tables) (v : ℕ) → Room (m .header) → v < allVertices m → noMidpointBy m (midpointsIn m) v ≡ noMidpoint m v
 unfolding noMidpointBy noMidpoint own
 no-midpoint-is m v room within =
     ⊎-elim (λ t. rw t (no-midpoint-made m v t within room)) (λ f. rw f) (either (leb (baseVertices m) v))
 
 -- The table refuses what the rule refuses.
-pub any-no-midpoint-is : (m : Tables) (used : List ℕ) → Room (m .header) → used ≡ usedIn m → anyBelow (allVertices m) (noMidpointBy m used) ≡ anyBelow (allVertices m) (noMidpoint m)
-any-no-midpoint-is m used room is =
-    any-same (allVertices m) (noMidpointBy m used) (noMidpoint m) (λ v l. rw is (no-midpoint-is m v room l))
+pub any-no-midpoint-is : (m : Tables) (midpoints : List ℕ) → Room (m .header) → midpoints ≡ midpointsIn m → anyBelow (allVertices m) (noMidpointBy m midpoints) ≡ anyBelow (allVertices m) (noMidpoint m)
+any-no-midpoint-is m midpoints room is =
+    any-same (allVertices m) (noMidpointBy m midpoints) (noMidpoint m) (λ v l. rw is (no-midpoint-is m v room l))

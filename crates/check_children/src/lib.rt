@@ -2,7 +2,7 @@
 // edge, generations beyond the last.
 //
 // The vertex halfway on an edge is found along the links by parent pair, which are filled once. Two tables of counts, filled from the cut
-// records, say whose child a record is and which vertices are halfway on a refinement edge.
+// records: `children` has for each record of how many it is a child, `midpoints` for each vertex on how many refinement edges it is halfway.
 use piece::Ends;
 use piece::Piece;
 use stored::Header;
@@ -87,9 +87,9 @@ fn bad_children<'a>(
     !holds(l, base, grown, first + 1, other)
 }
 
-// A cut record counts one more at the vertex halfway on its refinement edge.
+// A cut record counts one more at the vertex halfway on its refinement edge: tested and counted at once, since to find that vertex is what takes time.
 fn bad_cut<'a>(
-    used: &mut [u16],
+    midpoints: &mut [u16],
     h: Header,
     l: Layout,
     base: &'a [u8],
@@ -100,7 +100,7 @@ fn bad_cut<'a>(
 ) -> bool
     requires { ⌜ Linked (tables h l (now base) (now grown)) (now heads) (now nexts) ⌝ }
     ensures { λ b. ⌜ b ≡ badCut (tables h l (now (base .entry)) (now (grown .entry))) n ⌝ }
-    ensures { λ _. ⌜ now (used .exit) ≡ midpointCounted (tables h l (now (base .entry)) (now (grown .entry))) (now (used .entry)) n ⌝ }
+    ensures { λ _. ⌜ now (midpoints .exit) ≡ midpointCounted (tables h l (now (base .entry)) (now (grown .entry))) (now (midpoints .entry)) n ⌝ }
 {
     if check_refusals::is_leaf(l, base, grown, n) {
         return false;
@@ -109,18 +109,18 @@ fn bad_cut<'a>(
     let p = record.piece;
     let ends = piece::ends_of(p, p.edge);
     let w = vertex_with(h, l, base, grown, heads, nexts, ends);
-    chains::count(used, w);
+    chains::count(midpoints, w);
     bad_children(h, l, base, grown, n, record, w)
 }
 
 // Whether record c is beyond the base, and the table does not have it as the child of exactly one.
-fn not_child_of_one(h: Header, times: &[u16], c: usize) -> bool
-    ensures { λ b. ⌜ b ≡ notChildOfOneBy (h .«base_records») (now (times .entry)) c ⌝ }
+fn not_child_of_one(h: Header, children: &[u16], c: usize) -> bool
+    ensures { λ b. ⌜ b ≡ notChildOfOneBy (h .«base_records») (now (children .entry)) c ⌝ }
 {
     if c < h.base_records as usize {
         return false;
     }
-    chains::at(times, c) != 1
+    chains::at(children, c) != 1
 }
 
 fn too_deep<'a>(l: Layout, base: &'a [u8], grown: &'a [u8], n: usize) -> bool
@@ -131,24 +131,24 @@ fn too_deep<'a>(l: Layout, base: &'a [u8], grown: &'a [u8], n: usize) -> bool
 }
 
 fn bad_record<'a>(
-    used: &mut [u16],
+    midpoints: &mut [u16],
     h: Header,
     l: Layout,
     base: &'a [u8],
     grown: &'a [u8],
     heads: &'a [u16],
     nexts: &'a [u16],
-    times: &'a [u16],
+    children: &'a [u16],
     n: usize,
 ) -> bool
     requires { ⌜ Linked (tables h l (now base) (now grown)) (now heads) (now nexts) ⌝ }
-    ensures { λ b. ⌜ b ≡ badRecordBy (tables h l (now (base .entry)) (now (grown .entry))) (now (times .entry)) n ⌝ }
-    ensures { λ _. ⌜ now (used .exit) ≡ midpointCounted (tables h l (now (base .entry)) (now (grown .entry))) (now (used .entry)) n ⌝ }
+    ensures { λ b. ⌜ b ≡ badRecordBy (tables h l (now (base .entry)) (now (grown .entry))) (now (children .entry)) n ⌝ }
+    ensures { λ _. ⌜ now (midpoints .exit) ≡ midpointCounted (tables h l (now (base .entry)) (now (grown .entry))) (now (midpoints .entry)) n ⌝ }
 {
-    if bad_cut(used, h, l, base, grown, heads, nexts, n) {
+    if bad_cut(midpoints, h, l, base, grown, heads, nexts, n) {
         return true;
     }
-    if not_child_of_one(h, times, n) {
+    if not_child_of_one(h, children, n) {
         return true;
     }
     too_deep(l, base, grown, n)
@@ -156,23 +156,23 @@ fn bad_record<'a>(
 
 // Where no record is refused, all have counted.
 fn any_bad_record<'a>(
-    used: &mut [u16],
+    midpoints: &mut [u16],
     h: Header,
     l: Layout,
     base: &'a [u8],
     grown: &'a [u8],
     heads: &'a [u16],
     nexts: &'a [u16],
-    times: &'a [u16],
+    children: &'a [u16],
 ) -> bool
     requires { ⌜ Linked (tables h l (now base) (now grown)) (now heads) (now nexts) ⌝ }
-    ensures { λ b. ⌜ b ≡ anyBelow (h .records) (badRecordBy (tables h l (now (base .entry)) (now (grown .entry))) (now (times .entry))) ⌝ }
-    ensures { λ b. ⌜ (b ≡ false → now (used .exit) ≡ countsBelow (midpointCounted (tables h l (now (base .entry)) (now (grown .entry)))) (now (used .entry)) (h .records)) ⌝ }
+    ensures { λ b. ⌜ b ≡ anyBelow (h .records) (badRecordBy (tables h l (now (base .entry)) (now (grown .entry))) (now (children .entry))) ⌝ }
+    ensures { λ b. ⌜ (b ≡ false → now (midpoints .exit) ≡ countsBelow (midpointCounted (tables h l (now (base .entry)) (now (grown .entry)))) (now (midpoints .entry)) (h .records)) ⌝ }
 {
     let count = h.records as usize;
     let mut n: usize = 0;
     while n < count {
-        if bad_record(used, h, l, base, grown, heads, nexts, times, n) {
+        if bad_record(midpoints, h, l, base, grown, heads, nexts, children, n) {
             return true;
         }
         n += 1;
@@ -181,36 +181,36 @@ fn any_bad_record<'a>(
 }
 
 // One more at both children of record n, if it is cut.
-fn count_children<'a>(times: &mut [u16], l: Layout, base: &'a [u8], grown: &'a [u8], n: usize)
-    ensures { λ _. ⌜ now (times .exit) ≡ childrenCounted (now (times .entry)) (recordIn l (now (base .entry)) (now (grown .entry)) n) ⌝ }
+fn count_children<'a>(children: &mut [u16], l: Layout, base: &'a [u8], grown: &'a [u8], n: usize)
+    ensures { λ _. ⌜ now (children .exit) ≡ childrenCounted (now (children .entry)) (recordIn l (now (base .entry)) (now (grown .entry)) n) ⌝ }
 {
     let child = stored_entries::first_child_in(l, base, grown, n);
     if child == stored::NONE {
         return;
     }
     let first = child as usize;
-    chains::count(times, first);
-    chains::count(times, first + 1);
+    chains::count(children, first);
+    chains::count(children, first + 1);
 }
 
 fn count_all_children<'a>(
-    times: &mut [u16],
+    children: &mut [u16],
     l: Layout,
     base: &'a [u8],
     grown: &'a [u8],
     count: usize,
 )
-    ensures { λ _. ⌜ now (times .exit) ≡ countsBelow (λ t n. childrenCounted t (recordIn l (now (base .entry)) (now (grown .entry)) n)) (now (times .entry)) count ⌝ }
+    ensures { λ _. ⌜ now (children .exit) ≡ countsBelow (λ t n. childrenCounted t (recordIn l (now (base .entry)) (now (grown .entry)) n)) (now (children .entry)) count ⌝ }
 {
     let mut n: usize = 0;
     while n < count {
-        count_children(times, l, base, grown, n);
+        count_children(children, l, base, grown, n);
         n += 1;
     }
 }
 
 fn bad_records<'a>(
-    used: &mut [u16],
+    midpoints: &mut [u16],
     h: Header,
     l: Layout,
     base: &'a [u8],
@@ -221,11 +221,11 @@ fn bad_records<'a>(
     requires { ⌜ Linked (tables h l (now base) (now grown)) (now heads) (now nexts) ⌝ }
     requires { ⌜ Room h ⌝ }
     ensures { λ b. ⌜ b ≡ anyBelow (h .records) (badRecord (tables h l (now (base .entry)) (now (grown .entry)))) ⌝ }
-    ensures { λ b. ⌜ (b ≡ false → now (used .exit) ≡ countsBelow (midpointCounted (tables h l (now (base .entry)) (now (grown .entry)))) (now (used .entry)) (h .records)) ⌝ }
+    ensures { λ b. ⌜ (b ≡ false → now (midpoints .exit) ≡ countsBelow (midpointCounted (tables h l (now (base .entry)) (now (grown .entry)))) (now (midpoints .entry)) (h .records)) ⌝ }
 {
-    let mut times = [0u16; stored::RECORDS];
-    count_all_children(&mut times, l, base, grown, h.records as usize);
-    any_bad_record(used, h, l, base, grown, heads, nexts, &times)
+    let mut children = [0u16; stored::RECORDS];
+    count_all_children(&mut children, l, base, grown, h.records as usize);
+    any_bad_record(midpoints, h, l, base, grown, heads, nexts, &children)
 }
 
 // ---- made vertices
@@ -238,11 +238,11 @@ fn no_midpoint<'a>(
     grown: &'a [u8],
     heads: &'a [u16],
     nexts: &'a [u16],
-    used: &'a [u16],
+    midpoints: &'a [u16],
     v: usize,
 ) -> bool
     requires { ⌜ Linked (tables h l (now base) (now grown)) (now heads) (now nexts) ⌝ }
-    ensures { λ b. ⌜ b ≡ noMidpointBy (tables h l (now (base .entry)) (now (grown .entry))) (now (used .entry)) v ⌝ }
+    ensures { λ b. ⌜ b ≡ noMidpointBy (tables h l (now (base .entry)) (now (grown .entry))) (now (midpoints .entry)) v ⌝ }
 {
     if v < h.base_vertices as usize {
         return false;
@@ -253,7 +253,7 @@ fn no_midpoint<'a>(
         higher: parents.q,
     };
     let w = vertex_with(h, l, base, grown, heads, nexts, ends);
-    chains::at(used, w) == 0
+    chains::at(midpoints, w) == 0
 }
 
 fn no_midpoints<'a>(
@@ -263,15 +263,15 @@ fn no_midpoints<'a>(
     grown: &'a [u8],
     heads: &'a [u16],
     nexts: &'a [u16],
-    used: &'a [u16],
+    midpoints: &'a [u16],
 ) -> bool
     requires { ⌜ Linked (tables h l (now base) (now grown)) (now heads) (now nexts) ⌝ }
-    ensures { λ b. ⌜ b ≡ anyBelow (h .vertices) (noMidpointBy (tables h l (now (base .entry)) (now (grown .entry))) (now (used .entry))) ⌝ }
+    ensures { λ b. ⌜ b ≡ anyBelow (h .vertices) (noMidpointBy (tables h l (now (base .entry)) (now (grown .entry))) (now (midpoints .entry))) ⌝ }
 {
     let count = h.vertices as usize;
     let mut v: usize = 0;
     while v < count {
-        if no_midpoint(h, l, base, grown, heads, nexts, used, v) {
+        if no_midpoint(h, l, base, grown, heads, nexts, midpoints, v) {
             return true;
         }
         v += 1;
@@ -288,10 +288,10 @@ pub fn bad_cuts<'a>(h: Header, l: Layout, base: &'a [u8], grown: &'a [u8]) -> bo
     }
     let mut heads = [0u16; check_parents::PAIR_HEADS];
     let mut nexts = [0u16; stored::VERTICES];
-    let mut used = [0u16; stored::VERTICES];
+    let mut midpoints = [0u16; stored::VERTICES];
     check_parents::link_pairs(h, l, base, grown, &mut heads, &mut nexts);
-    if bad_records(&mut used, h, l, base, grown, &heads, &nexts) {
+    if bad_records(&mut midpoints, h, l, base, grown, &heads, &nexts) {
         return true;
     }
-    no_midpoints(h, l, base, grown, &heads, &nexts, &used)
+    no_midpoints(h, l, base, grown, &heads, &nexts, &midpoints)
 }

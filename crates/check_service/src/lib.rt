@@ -26,6 +26,13 @@ fn refused(number: u64) -> Report
     }
 }
 
+// What there is to report before the figures where no rule is broken.
+fn none_broken() -> Report
+    ensures { λ r. ⌜ r ≡ refusedWith 0 ⌝ }
+{
+    refused(0)
+}
+
 // Refusal 3.
 fn wrong_counts(most: Limits, h: Header) -> bool
     ensures { λ r. ⌜ r ≡ wrongCounts most h ⌝ }
@@ -48,7 +55,7 @@ fn wrong_counts(most: Limits, h: Header) -> bool
     h.records < h.base_records
 }
 
-// Refusal 10, or 0.
+// Refusal 10, or none.
 fn closed<'a>(h: Header, l: Layout, base: &'a [u8], grown: &'a [u8]) -> Report
     requires { ⌜ Bounded h ⌝ }
     ensures { λ r. ⌜ r ≡ reported (foundOf (tables h l (now (base .entry)) (now (grown .entry)))) ⌝ }
@@ -63,11 +70,11 @@ fn closed<'a>(h: Header, l: Layout, base: &'a [u8], grown: &'a [u8]) -> Report
             record: n as u64,
             edge: e as u64,
         },
-        Found::Nothing => refused(0),
+        Found::Nothing => none_broken(),
     }
 }
 
-// Refusals 4 to 10, tried in their order, or 0.
+// Refusals 4 to 10, tried in their order, or none.
 fn judged<'a>(h: Header, l: Layout, base: &'a [u8], grown: &'a [u8]) -> Report
     requires { ⌜ Bounded h ⌝ }
     ensures { λ r. ⌜ r ≡ judgedReport (tables h l (now (base .entry)) (now (grown .entry))) ⌝ }

@@ -40,36 +40,36 @@ abbrev pub outputOf : ℕ → ℕ → List ℕ → List ℕ
 outputOf number room bytes = let stored = bytes ++ replicate (room - length bytes) 0 in cond (eqb number 0) stored (replicate room 0)
 
 unfoldable pub storedBytes : Header → List ℕ → List ℕ → ℕ → List ℕ
-storedBytes h base grown room = outputOf (storedNumber h room) room (assembled (nextRound h) base grown)
+storedBytes h vertices records room = outputOf (storedNumber h room) room (assembled (nextRound h) vertices records)
 
 -- What is assembled: the slices are those to work on, the round can rise, and the output buffer is clear.
-pub record Assembled (h : Header) (base grown out : List ℕ) : Type 0 where
-  pub vertices-there : length base ≡ vertexWidth * (limits .vertices + 1)
-  pub records-there : length grown ≡ recordWidth * (limits .records + 2)
+pub record Assembled (h : Header) (vertices records out : List ℕ) : Type 0 where
+  pub vertices-there : length vertices ≡ vertexWidth * (limits .vertices + 1)
+  pub records-there : length records ≡ recordWidth * (limits .records + 2)
   pub round : h .round < lastRound
   pub clear : out ≡ replicate (length out) 0
 
-module _ (h : Header) (base grown out : List ℕ) (a : Assembled h base grown out) where
-  refused-bytes : eqb (storedNumber h (length out)) 0 ≡ false → out ≡ storedBytes h base grown (length out)
+module _ (h : Header) (vertices records out : List ℕ) (a : Assembled h vertices records out) where
+  refused-bytes : eqb (storedNumber h (length out)) 0 ≡ false → out ≡ storedBytes h vertices records (length out)
   unfolding storedBytes
   refused-bytes e = rw e (a .clear)
 
-  pub stored-19 : exceeds limits h ≡ true → (19 ≡ storedNumber h (length out)) × (out ≡ storedBytes h base grown (length out))
+  pub stored-19 : exceeds limits h ≡ true → (19 ≡ storedNumber h (length out)) × (out ≡ storedBytes h vertices records (length out))
   unfolding storedNumber resultRows firstBroken
   stored-19 e = let n : 19 ≡ storedNumber h (length out) = rw e in (n, refused-bytes (rw (← n)))
 
   module _ (few : exceeds limits h ≡ false) where
-    pub stored-20 : length out < meshLength (h .vertices) (h .records) → (20 ≡ storedNumber h (length out)) × (out ≡ storedBytes h base grown (length out))
+    pub stored-20 : length out < meshLength (h .vertices) (h .records) → (20 ≡ storedNumber h (length out)) × (out ≡ storedBytes h vertices records (length out))
     unfolding storedNumber resultRows firstBroken
     stored-20 l = let n : 20 ≡ storedNumber h (length out) = rw (few, lt-ltb (length out) (meshLength (h .vertices) (h .records)) l) in (n, refused-bytes (rw (← n)))
 
-    pub stored-0 : meshLength (h .vertices) (h .records) ≤ length out → (0 ≡ storedNumber h (length out)) × (sets out 0 (assembled (nextRound h) base grown) ≡ storedBytes h base grown (length out))
+    pub stored-0 : meshLength (h .vertices) (h .records) ≤ length out → (0 ≡ storedNumber h (length out)) × (sets out 0 (assembled (nextRound h) vertices records) ≡ storedBytes h vertices records (length out))
     unfolding storedNumber resultRows firstBroken storedBytes
     stored-0 l =
         let n : 0 ≡ storedNumber h (length out) = rw (few, le-ltb (length out) (meshLength (h .vertices) (h .records)) l) in
         let (v, r) = within limits h few in
-        let long = assembled-length (nextRound h) base grown (omega (arith, a .vertices-there)) (omega (arith, a .records-there)) in
-        (n, rw (← n) (ap (λ (t : List ℕ). sets t 0 (assembled (nextRound h) base grown)) (a .clear) ∙ clear-with (length out) (assembled (nextRound h) base grown) (omega arith)))
+        let long = assembled-length (nextRound h) vertices records (omega (arith, a .vertices-there)) (omega (arith, a .records-there)) in
+        (n, rw (← n) (ap (λ (t : List ℕ). sets t 0 (assembled (nextRound h) vertices records)) (a .clear) ∙ clear-with (length out) (assembled (nextRound h) vertices records) (omega arith)))
 
 -- ---- the tables, copied and worked on
 
@@ -110,16 +110,16 @@ bytes-zeros zero = bytes-none
 bytes-zeros (suc n) = bytes-cons (lit< tt) (bytes-zeros n)
 
 module _ (mesh selection out : List ℕ) (h : Header) (c : Copied h mesh out) where
-  abbrev pub copiedBase : List ℕ
-  copiedBase = sets (replicate (vertexWidth * (limits .vertices + 1)) 0) 0 (vertexPart h mesh)
+  abbrev pub copiedVertices : List ℕ
+  copiedVertices = sets (replicate (vertexWidth * (limits .vertices + 1)) 0) 0 (vertexPart h mesh)
 
-  abbrev pub copiedGrown : List ℕ
-  copiedGrown = sets (replicate (recordWidth * (limits .records + 2)) 0) 0 (recordPart h mesh)
+  abbrev pub copiedRecords : List ℕ
+  copiedRecords = sets (replicate (recordWidth * (limits .records + 2)) 0) 0 (recordPart h mesh)
 
   abbrev chosen : ℕ → Bool
   chosen = isNamed (selectionOf selection .count) (namedIn selection)
 
-  copied-tables : tables h work copiedBase copiedGrown ≡ tablesOf mesh
+  copied-tables : tables h work copiedVertices copiedRecords ≡ tablesOf mesh
   unfolding tablesOf
   copied-tables =
       let v : h .vertices ≤ limits .vertices + 1 = omega (arith, c .vertices) in
@@ -131,8 +131,8 @@ module _ (mesh selection out : List ℕ) (h : Header) (c : Copied h mesh out) wh
       })
       ∙ ap (λ (g : Header). tables g (layoutOf g) mesh mesh) (c .header)
 
-  module _ (bytes : Bytes mesh) (with : Header) (base grown : List ℕ) (is : slices with base grown ≡ refinedWithin chosen (slices h copiedBase copiedGrown))
-      (long : length base ≡ vertexWidth * (limits .vertices + 1)) (deep : length grown ≡ recordWidth * (limits .records + 2)) where
+  module _ (bytes : Bytes mesh) (with : Header) (vertices records : List ℕ) (is : slices with vertices records ≡ refinedWithin chosen (slices h copiedVertices copiedRecords))
+      (long : length vertices ≡ vertexWidth * (limits .vertices + 1)) (deep : length records ≡ recordWidth * (limits .records + 2)) where
     vertex-bytes : Bytes (vertexPart h mesh)
     unfolding vertexPart
     vertex-bytes = bytes-take (vertexWidth * h .vertices) (drop headerWidth mesh) (bytes-drop headerWidth mesh bytes)
@@ -141,48 +141,48 @@ module _ (mesh selection out : List ℕ) (h : Header) (c : Copied h mesh out) wh
     unfolding recordPart
     record-bytes = bytes-take (recordWidth * h .records) (drop (headerWidth + vertexWidth * h .vertices) mesh) (bytes-drop (headerWidth + vertexWidth * h .vertices) mesh bytes)
 
-    base-there : vertexWidth * (limits .vertices + 1) ≤ length copiedBase
-    base-there = omega (arith, length-sets (replicate (vertexWidth * (limits .vertices + 1)) 0) 0 (vertexPart h mesh), length-replicate {A = ℕ} (vertexWidth * (limits .vertices + 1)) 0)
+    vertex-room : vertexWidth * (limits .vertices + 1) ≤ length copiedVertices
+    vertex-room = omega (arith, length-sets (replicate (vertexWidth * (limits .vertices + 1)) 0) 0 (vertexPart h mesh), length-replicate {A = ℕ} (vertexWidth * (limits .vertices + 1)) 0)
 
-    growth-there : recordWidth * (limits .records + 2) ≤ length copiedGrown
-    growth-there = omega (arith, length-sets (replicate (recordWidth * (limits .records + 2)) 0) 0 (recordPart h mesh), length-replicate {A = ℕ} (recordWidth * (limits .records + 2)) 0)
+    record-room : recordWidth * (limits .records + 2) ≤ length copiedRecords
+    record-room = omega (arith, length-sets (replicate (recordWidth * (limits .records + 2)) 0) 0 (recordPart h mesh), length-replicate {A = ℕ} (recordWidth * (limits .records + 2)) 0)
 
-    begun : Working limits work (slices h copiedBase copiedGrown)
+    begun : Working limits work (slices h copiedVertices copiedRecords)
     begun =
-        can-begin (slices h copiedBase copiedGrown) base-there growth-there
+        can-begin (slices h copiedVertices copiedRecords) vertex-room record-room
         (bytes-sets (replicate (vertexWidth * (limits .vertices + 1)) 0) 0 (vertexPart h mesh) (bytes-zeros (vertexWidth * (limits .vertices + 1))) vertex-bytes, bytes-sets (replicate (recordWidth * (limits .records + 2)) 0) 0 (recordPart h mesh) (bytes-zeros (recordWidth * (limits .records + 2))) record-bytes)
 
     -- Within the limits all passes are made.
-    made : slices with base grown ≡ refinedPut limits work chosen (slices h copiedBase copiedGrown)
-    made = is ∙ refined-within chosen (slices h copiedBase copiedGrown) (not-exceeds limits h (c .vertices) (c .records)) base-there growth-there
+    made : slices with vertices records ≡ refinedPut limits work chosen (slices h copiedVertices copiedRecords)
+    made = is ∙ refined-within chosen (slices h copiedVertices copiedRecords) (not-exceeds limits h (c .vertices) (c .records)) vertex-room record-room
 
-    ended : Working limits work (slices with base grown)
-    ended = subst (Working limits work) (sym made) (refined-working limits work chosen (slices h copiedBase copiedGrown) begun)
+    ended : Working limits work (slices with vertices records)
+    ended = subst (Working limits work) (sym made) (refined-working limits work chosen (slices h copiedVertices copiedRecords) begun)
 
-    worked : tables with work base grown ≡ closed mesh selection
+    worked : tables with work vertices records ≡ closed mesh selection
     unfolding closed
     worked =
         ap (tablesIn work) made
-        ∙ refined-tables limits work chosen (slices h copiedBase copiedGrown) begun
+        ∙ refined-tables limits work chosen (slices h copiedVertices copiedRecords) begun
         ∙ ap (refined limits chosen) copied-tables
 
     round-same : with .round ≡ h .round
     unfolding closed tablesOf
     round-same = (λ i. worked i .header .round) ∙ round-stays limits chosen (tablesOf mesh) ∙ sym (ap (λ (k : Header). k .round) (c .header))
 
-    pub worked-assembled : Assembled with base grown out
+    pub worked-assembled : Assembled with vertices records out
     worked-assembled = record { vertices-there = long; records-there = deep; round = omega (arith, round-same, c .round); clear = c .clear }
 
     pub later-number : (room : ℕ) → storedNumber with room ≡ laterNumber mesh selection room
     unfolding laterNumber
     later-number room = λ i. storedNumber (worked i .header) room
 
-    pub later-bytes : (room : ℕ) → storedBytes with base grown room ≡ laterBytes mesh selection room
+    pub later-bytes : (room : ℕ) → storedBytes with vertices records room ≡ laterBytes mesh selection room
     unfolding storedBytes laterBytes laterNumber resultOf
     later-bytes room =
-        same-output (storedNumber with room) room (assembled (nextRound with) base grown) (meshBytes (resultOf (tables with work base grown)))
+        same-output (storedNumber with room) room (assembled (nextRound with) vertices records) (meshBytes (resultOf (tables with work vertices records)))
         (λ e. let (v, r) = within limits with (stored-few with room e) in
-        assembled-mesh (nextRound with) (limits .vertices + 1) (limits .records + 2) (omega arith) (omega arith) base grown (ended .bytes .0) (ended .bytes .1) long deep)
+        assembled-mesh (nextRound with) (limits .vertices + 1) (limits .records + 2) (omega arith) (omega arith) vertices records (ended .bytes .0) (ended .bytes .1) long deep)
         ∙ ap (λ (m : Tables). outputOf (storedNumber (m .header) room) room (meshBytes (resultOf m))) worked
 
 -- ---- what refine answers, part by part

@@ -1,12 +1,11 @@
 // Refine: cuts the selected pieces, and what hangs then, until nothing does.
 use stored::Header;
 use stored::Layout;
-use stored::Limits;
 use stored::Selection;
 ghost use mathlib.Core.Path.{_≡_};
 ghost use Prim.Native.Nat.{_<_};
 ghost use lib.ListN.{length};
-ghost use Rattle.stored.specs.Layout.{limits, lastRound, namedIn};
+ghost use Rattle.stored.specs.Layout.{lastRound, namedIn};
 ghost use Rattle.check_refusals.specs.Tables.{tables};
 ghost use Rattle.check_refusals.specs.Check.{checkNumber};
 ghost use Rattle.refine_service.specs.Refine.{nextRound, RefineOutcomeIs};
@@ -83,19 +82,18 @@ fn next_round(h: Header) -> Header
 }
 
 // Refusals 19 and 20, or the mesh.
-fn finish<'a>(most: Limits, h: Header, base: &'a [u8], grown: &'a [u8], out: &mut [u8]) -> u32
-    requires { ⌜ most ≡ limits ⌝ }
-    requires { ⌜ Assembled h (now base) (now grown) (now out) ⌝ }
+fn finish<'a>(h: Header, vertices: &'a [u8], records: &'a [u8], out: &mut [u8]) -> u32
+    requires { ⌜ Assembled h (now vertices) (now records) (now out) ⌝ }
     ensures { λ r. ⌜ r ≡ storedNumber h (length (now (out .entry))) ⌝ }
-    ensures { λ _. ⌜ now (out .exit) ≡ storedBytes h (now (base .entry)) (now (grown .entry)) (length (now (out .entry))) ⌝ }
+    ensures { λ _. ⌜ now (out .exit) ≡ storedBytes h (now (vertices .entry)) (now (records .entry)) (length (now (out .entry))) ⌝ }
 {
-    if refine_pass::is_beyond(most, h) {
+    if refine_pass::is_beyond(stored::limits_of_version_1(), h) {
         return 19;
     }
     if out.len() < stored_headers::mesh_length(h.vertices, h.records) {
         return 20;
     }
-    stored_written::put_mesh(out, next_round(h), base, grown);
+    stored_written::put_mesh(out, next_round(h), vertices, records);
     0
 }
 
@@ -105,13 +103,12 @@ fn store(mesh: &[u8], h: Header, selection: &[u8], out: &mut [u8]) -> u32
     ensures { λ r. ⌜ r ≡ laterNumber (now (mesh .entry)) (now (selection .entry)) (length (now (out .entry))) ⌝ }
     ensures { λ _. ⌜ now (out .exit) ≡ laterBytes (now (mesh .entry)) (now (selection .entry)) (length (now (out .entry))) ⌝ }
 {
-    let most = stored::limits_of_version_1();
-    let mut base = [0u8; stored::WORKING_VERTEX_BYTES];
-    let mut grown = [0u8; stored::WORKING_RECORD_BYTES];
-    stored_written::copy_tables(mesh, h, &mut base, &mut grown);
+    let mut vertices = [0u8; stored::WORKING_VERTEX_BYTES];
+    let mut records = [0u8; stored::WORKING_RECORD_BYTES];
+    stored_written::copy_tables(mesh, h, &mut vertices, &mut records);
     let s = stored_selections::selection_of(selection);
-    let with = refine_pass::refined(h, &mut base, &mut grown, selection, s.count as usize);
-    finish(most, with, &base, &grown, out)
+    let with = refine_pass::refined(h, &mut vertices, &mut records, selection, s.count as usize);
+    finish(with, &vertices, &records, out)
 }
 
 pub fn refine<'a>(mesh: &'a [u8], selection: &'a [u8], out: &mut [u8]) -> u32

@@ -15,10 +15,10 @@ use Rattle.check_children.proofs.any_bad_record.Statement.{statement}
 use Rattle.check_children.proofs.any_bad_record.Tie as tie
 
 abbrev Inv-loop : tie.InvT-loop
-Inv-loop used₀ h l base grown heads nexts times count n₀ used n = (n ≤ h .records) × (anyBelow n (badRecordBy (tables h l base grown) times) ≡ false) × (used ≡ countsBelow (midpointCounted (tables h l base grown)) used₀ n)
+Inv-loop midpoints₀ h l base grown heads nexts children count n₀ midpoints n = (n ≤ h .records) × (anyBelow n (badRecordBy (tables h l base grown) children) ≡ false) × (midpoints ≡ countsBelow (midpointCounted (tables h l base grown)) midpoints₀ n)
 
 abbrev μ-loop : tie.MeasureT-loop
-μ-loop used₀ h l base grown heads nexts times count n₀ used n = h .records - n
+μ-loop midpoints₀ h l base grown heads nexts children count n₀ midpoints n = h .records - n
 
 loop-holds : tie.Need-loop-holds Inv-loop μ-loop
 loop-holds c = (omega arith, any-none _, sym (counts-none _ _))

@@ -12,10 +12,10 @@ use Rattle.check_children.proofs.count_all_children.Statement.{statemen
 use Rattle.check_children.proofs.count_all_children.Tie as tie
 
 abbrev Inv-loop : tie.InvT-loop
-Inv-loop times₀ l base grown count n₀ times n = (n ≤ count) × (times ≡ countsBelow (λ t n. childrenCounted t (recordIn l base grown n)) times₀ n)
+Inv-loop children₀ l base grown count n₀ children n = (n ≤ count) × (children ≡ countsBelow (λ t n. childrenCounted t (recordIn l base grown n)) children₀ n)
 
 abbrev μ-loop : tie.MeasureT-loop
-μ-loop times₀ l base grown count n₀ times n = count - n
+μ-loop children₀ l base grown count n₀ children n = count - n
 
 loop-holds : tie.Need-loop-holds Inv-loop μ-loop
 loop-holds c = (omega arith, sym (counts-none _ _))

@@ -1,4 +1,4 @@
--- `check_children::no_midpoints` has passed no vertex before v that is not used.
+-- `check_children::no_midpoints` has passed no vertex before v that is no midpoint.
 -- Assumes nothing.
 use borrow.Author.Needs.{needs}
 use Prim.Native.Nat.{_≤_, _-_}
@@ -12,10 +12,10 @@ use Rattle.check_children.proofs.no_midpoints.Statement.{statement}
 use Rattle.check_children.proofs.no_midpoints.Tie as tie
 
 abbrev Inv-loop : tie.InvT-loop
-Inv-loop h l base grown heads nexts used count v₀ v = (v ≤ h .vertices) × (anyBelow v (noMidpointBy (tables h l base grown) used) ≡ false)
+Inv-loop h l base grown heads nexts midpoints count v₀ v = (v ≤ h .vertices) × (anyBelow v (noMidpointBy (tables h l base grown) midpoints) ≡ false)
 
 abbrev μ-loop : tie.MeasureT-loop
-μ-loop h l base grown heads nexts used count v₀ v = h .vertices - v
+μ-loop h l base grown heads nexts midpoints count v₀ v = h .vertices - v
 
 loop-holds : tie.Need-loop-holds Inv-loop μ-loop
 loop-holds c = (omega arith, any-none _)
