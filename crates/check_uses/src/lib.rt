@@ -40,6 +40,7 @@ fn unused_by_table<'a>(h: Header, l: Layout, base: &'a [u8], grown: &'a [u8]) ->
     requires { ⌜ Room h ⌝ }
     ensures { λ r. ⌜ r ≡ unusedVertices (tables h l (now (base .entry)) (now (grown .entry))) ⌝ }
 {
+    // "one count for each of the 1,024 possible vertices": [0; 1024]
     let mut uses = [0u16; stored::VERTICES];
     count_records(&mut uses, l, base, grown, h.base_records as usize);
     let count = h.base_vertices as usize;
