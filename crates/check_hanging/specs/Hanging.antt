@@ -25,17 +25,21 @@ use Rattle.check_parents.specs.Pairs.{pairHeads, pairKey, keyOf, Linked, pair-k
 unfoldable pub foundOf : Tables → Found
 foundOf m = cond (hangingEdge m) (At (firstHanging m) (firstBelow 6 (hangsAt m (firstHanging m)))) Nothing
 
+-- What there is to report before the figures where no rule is broken.
+abbrev pub noneBroken : Report
+noneBroken = refusedWith 0
+
 -- "If an answer is an enum, a definition gives this paper's number and values for each of its cases."
 abbrev pub reported : Found → Report
 reported (At n e) = record { number = 10; leaves = 0; deepest = 0; sixfold = 0; «record» = n; edge = e }
-reported Nothing = refusedWith 0
+reported Nothing = noneBroken
 
 -- It is check's own report of a hanging edge.
-pub found-reported : (m : Tables) → reported (foundOf m) ≡ cond (hangingEdge m) (hangingReport m) (refusedWith 0)
+pub found-reported : (m : Tables) → reported (foundOf m) ≡ cond (hangingEdge m) (hangingReport m) noneBroken
 unfolding foundOf
 found-reported m = go (hangingEdge m)
   where
-    go : (b : Bool) → reported (cond b (At (firstHanging m) (firstBelow 6 (hangsAt m (firstHanging m)))) Nothing) ≡ cond b (hangingReport m) (refusedWith 0)
+    go : (b : Bool) → reported (cond b (At (firstHanging m) (firstBelow 6 (hangsAt m (firstHanging m)))) Nothing) ≡ cond b (hangingReport m) noneBroken
     go true = refl
     go false = refl
 

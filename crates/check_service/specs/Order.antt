@@ -4,7 +4,7 @@ use mathlib.Core.Bool.{Bool, true, false, cond}
 use mathlib.Core.List.{List, [], _∷_}
 use Prim.Native.Nat.{ℕ}
 use Rattle.stored.specs.Layout.{limits, headerOf, rightLength, rightMark}
-use Rattle.check_hanging.specs.Hanging.{foundOf, reported, found-reported}
+use Rattle.check_hanging.specs.Hanging.{noneBroken, foundOf, reported, found-reported}
 use Rattle.check_refusals.specs.Tables.{Tables, tablesOf}
 use Rattle.check_refusals.specs.declared.Report.{Report}
 use Rattle.check_refusals.specs.Refusals.{wrongLength, wrongMark, wrongCounts, badVertices, badBaseRecords, badBaseMarks, badBaseFaces, unusedVertices, badCuts, hangingEdge}
@@ -25,7 +25,7 @@ judgedReport m =
 
 in-order : (m : Tables) (b₄ b₅ b₆ b₇ b₈ b₉ b₁₀ : Bool) →
     withoutFigures (reportOf m (firstBroken (row 4 b₄ ∷ row 5 b₅ ∷ row 6 b₆ ∷ row 7 b₇ ∷ row 8 b₈ ∷ row 9 b₉ ∷ row 10 b₁₀ ∷ [])))
-    ≡ cond b₄ (refusedWith 4) (cond b₅ (refusedWith 5) (cond b₆ (refusedWith 6) (cond b₇ (refusedWith 7) (cond b₈ (refusedWith 8) (cond b₉ (refusedWith 9) (cond b₁₀ (hangingReport m) (refusedWith 0)))))))
+    ≡ cond b₄ (refusedWith 4) (cond b₅ (refusedWith 5) (cond b₆ (refusedWith 6) (cond b₇ (refusedWith 7) (cond b₈ (refusedWith 8) (cond b₉ (refusedWith 9) (cond b₁₀ (hangingReport m) noneBroken))))))
 unfolding reportOf firstBroken
 in-order m true b₅ b₆ b₇ b₈ b₉ b₁₀ = refl
 in-order m false true b₆ b₇ b₈ b₉ b₁₀ = refl

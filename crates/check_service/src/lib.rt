@@ -9,7 +9,7 @@ ghost use Rattle.check_refusals.specs.Tables.{tables};
 ghost use Rattle.check_refusals.specs.Refusals.{wrongCounts};
 ghost use Rattle.check_refusals.specs.Check.{refusedWith, accepted, CheckOutcomeIs};
 ghost use Rattle.check_refusals.specs.Bounded.{Bounded};
-ghost use Rattle.check_hanging.specs.Hanging.{foundOf, reported};
+ghost use Rattle.check_hanging.specs.Hanging.{foundOf, noneBroken, reported};
 ghost use Rattle.check_service.specs.Verdict.{VerdictIs};
 ghost use Rattle.check_service.specs.Order.{judgedReport};
 
@@ -28,7 +28,7 @@ fn refused(number: u64) -> Report
 
 // What there is to report before the figures where no rule is broken.
 fn none_broken() -> Report
-    ensures { λ r. ⌜ r ≡ refusedWith 0 ⌝ }
+    ensures { λ r. ⌜ r ≡ noneBroken ⌝ }
 {
     refused(0)
 }
