@@ -1,6 +1,6 @@
 -- Whatever build accepts, check accepts, with as many leaves as pieces and depth 0.
 use mathlib.Core.Path.{_≡_, refl, sym, ap, _∙_, subst}
-use mathlib.Core.Bool.{Bool, true, false, not, cond}
+use mathlib.Core.Bool.{Bool, true, false, not}
 use mathlib.Core.Logic.{⊎-elim}
 use mathlib.Core.List.{List}
 use Prim.Native.Nat.{ℕ, zero, suc, _/_, _≤_, _<_}
@@ -11,6 +11,7 @@ use lib.IntN.{ℤ}
 use lib.Dec.{ltb}
 use borrow.Author.Tests.{ltb-true, ltb-false}
 use Rattle.laws.specs.Below.{either, or-left-false, or-right-false, countBelow, count-none, count-suc, greatestBelow, greatest-none, greatest-suc}
+use Rattle.laws.specs.Order.{none-broken}
 use Rattle.piece.specs.declared.Piece.{Piece}
 use Rattle.piece.specs.Shape.{shapeOf, Valid}
 use Rattle.stored.specs.declared.Header.{Header}
@@ -20,7 +21,7 @@ use Rattle.stored.specs.Fitting.{MeshFits, or-none-small}
 use Rattle.stored.specs.Meshes.{mesh-right-length, mesh-right-mark}
 use Rattle.check_refusals.specs.Tables.{Tables, tablesOf, baseVertices, allVertices, baseRecords, allRecords, pieceAt, isLeaf}
 use Rattle.check_refusals.specs.Refusals.{wrongLength, wrongMark, wrongCounts, badVertices, badBaseRecords, badBaseFaces, unusedVertices}
-use Rattle.check_refusals.specs.Check.{firstBroken, checkNumber, leaves, leafGeneration, deepest, sixfold, reportOf, checkOf}
+use Rattle.check_refusals.specs.Check.{checkNumber, leaves, leafGeneration, deepest, sixfold, reportOf, checkOf}
 use Rattle.check_meaning.specs.Tests.{equal}
 use Rattle.check_meaning.specs.Accepted.{Within, RightCounts, RightBaseRecords, RightBaseMarks, RightCuts, Accepted, Made, Leaf}
 use Rattle.check_meaning.specs.Heading.{rule1-holds, rule2-holds, rule3-holds}
@@ -44,31 +45,20 @@ pub record Passed (job : ℕ) (coordinates : List ℤ) (corners : List ℕ) (roo
   pub uses : unusedVertices (written job coordinates corners) ≡ false
   pub fits : length (plainBytes job coordinates corners) ≤ room
 
--- Where 0 is given, the first row is not broken and the later ones give 0.
-not-first : (b : Bool) (n later : ℕ) → cond b (suc n) later ≡ 0 → (b ≡ false) × (later ≡ 0)
-not-first true n later e = absurd (omega arith)
-not-first false n later e = (refl, e)
-
 module _ (job : ℕ) (coordinates : List ℤ) (corners : List ℕ) (room : ℕ) where
   -- Build gives 0 only where none of its rules is broken.
   pub passed : buildNumber job coordinates corners room ≡ 0 → Passed job coordinates corners room
-  unfolding buildNumber buildRows firstBroken
+  unfolding buildNumber buildRows
   passed e =
-      let r21 = not-first _ 20 _ e in
-      let r3 = not-first _ 2 _ (r21 .1) in
-      let r4 = not-first _ 3 _ (r3 .1) in
-      let r5 = not-first _ 4 _ (r4 .1) in
-      let r7 = not-first _ 6 _ (r5 .1) in
-      let r8 = not-first _ 7 _ (r7 .1) in
-      let r20 = not-first _ 19 _ (r8 .1) in
+      let right = none-broken (buildRows job coordinates corners room) refl e in
       record {
-        whole = r21 .0;
-        counts = r3 .0;
-        vertices = r4 .0;
-        base-records = r5 .0;
-        faces = r7 .0;
-        uses = r8 .0;
-        fits = ltb-false room (length (plainBytes job coordinates corners)) (r20 .0);
+        whole = right 21;
+        counts = right 3;
+        vertices = right 4;
+        base-records = right 5;
+        faces = right 7;
+        uses = right 8;
+        fits = ltb-false room (length (plainBytes job coordinates corners)) (right 20);
       }
 
   counts-fit : Passed job coordinates corners room → CountsFit coordinates corners

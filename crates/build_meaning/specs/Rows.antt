@@ -11,7 +11,7 @@ use Rattle.grid_volume.specs.Volume.{minorOf, determinantOf, differenceOf, diff
 use Rattle.stored.specs.Layout.{meshBytes, headerBytes, markBytes, headerOf, heldIn, orNone, storedOrNone, vertexIn, vertexFrom, vertexBytes, recordIn, recordFrom, recordBytes}
 use Rattle.check_refusals.specs.Tables.{tablesOf, sixfoldAt}
 use Rattle.check_refusals.specs.Refusals.{wrongCounts, badVertices, badVertex, badBaseVertex, placeTwice, badBaseRecords, badBaseRecord, badPiece, equalCorners, cornerNotInBase, badBaseFaces, badFaces, badWith, unusedVertices, unusedVertex, hasCorner}
-use Rattle.check_refusals.specs.Check.{firstBroken}
+use Rattle.laws.specs.Order.{firstBroken}
 use Rattle.build_marks.specs.Marking.{plainPlace, plainVertex, plainPiece, rankOf, outranked, firstRanked, markedPiece, plainRecord}
 use Rattle.build_service.specs.Build.{notWhole, plainHeader, plainMesh, plainBytes, buildRows, buildNumber, buildBytes}
 

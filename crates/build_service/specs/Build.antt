@@ -7,11 +7,11 @@ use lib.ListN.{length, replicate}
 use lib.IntN.{ℤ}
 use lib.Dec.{eqb, ltb}
 use Rattle.laws.specs.Below.{listBelow}
+use Rattle.laws.specs.Order.{Row, row, firstBroken}
 use Rattle.stored.specs.declared.Header.{Header}
 use Rattle.stored.specs.Layout.{limits, Mesh, meshBytes}
 use Rattle.check_refusals.specs.Tables.{tablesOf}
 use Rattle.check_refusals.specs.Refusals.{wrongCounts, badVertices, badBaseRecords, badBaseFaces, unusedVertices}
-use Rattle.check_refusals.specs.Check.{Row, row, firstBroken}
 use Rattle.build_marks.specs.Marking.{plainVertex, plainRecord}
 
 -- 21: "coordinates not three a vertex, or corners not four a piece"

@@ -12,6 +12,7 @@ use lib.IntN.{ℤ}
 use lib.Dec.{eqb, ltb}
 use borrow.Author.Tests.{ne-eqb, lt-ltb, le-ltb}
 use Rattle.laws.specs.Below.{listBelow, list-none, list-suc, list-length}
+use Rattle.laws.specs.Order.{Row, row, firstBroken, one-after-other}
 use Rattle.laws.specs.Lists.{joined, joined-append, joined-length, sets-append, clear-with}
 use Rattle.stored.specs.declared.Layout.{Layout}
 use Rattle.stored.specs.declared.Header.{Header}
@@ -24,7 +25,6 @@ use Rattle.stored.specs.Entries.{vertex-wide, record-wide}
 use Rattle.check_refusals.specs.Bounded.{Bounded}
 use Rattle.check_refusals.specs.Tables.{Tables, tablesOf}
 use Rattle.check_refusals.specs.Refusals.{wrongCounts, badVertices, badBaseRecords, badBaseFaces, unusedVertices}
-use Rattle.check_refusals.specs.Check.{row, firstBroken}
 use Rattle.check_refusals.specs.Bounded.{Bounded, bounded}
 use Rattle.build_marks.specs.Marking.{plainVertex, plainRecord}
 use Rattle.build_service.specs.Build.{notWhole, plainHeader, plainMesh, plainBytes, buildRows, buildNumber, buildBytes}
@@ -198,8 +198,11 @@ or-none false = refl
 -- ---- what is judged of a stored mesh
 
 -- 4, 5, 7 and 8, of the tables.
+abbrev judgedRows : Tables → List Row
+judgedRows m = row 4 (badVertices m) ∷ row 5 (badBaseRecords m) ∷ row 7 (badBaseFaces m) ∷ row 8 (unusedVertices m) ∷ []
+
 unfoldable pub judgedNumber : Tables → ℕ
-judgedNumber m = firstBroken (row 4 (badVertices m) ∷ row 5 (badBaseRecords m) ∷ row 7 (badBaseFaces m) ∷ row 8 (unusedVertices m) ∷ [])
+judgedNumber m = firstBroken (judgedRows m)
 
 module _ (m : Tables) where
   pub judged-4 : badVertices m ≡ true → 4 ≡ judgedNumber m
@@ -224,15 +227,7 @@ module _ (m : Tables) where
 
 -- And 20, of the mesh's bytes s and the room for them.
 unfoldable pub laterNumber : List ℕ → ℕ → ℕ
-laterNumber s room =
-    let m = tablesOf s in
-    firstBroken
-    (row 4 (badVertices m)
-    ∷ row 5 (badBaseRecords m)
-    ∷ row 7 (badBaseFaces m)
-    ∷ row 8 (unusedVertices m)
-    ∷ row 20 (ltb room (length s))
-    ∷ [])
+laterNumber s room = firstBroken (judgedRows (tablesOf s) ++ (row 20 (ltb room (length s)) ∷ []))
 
 unfoldable pub laterBytes : List ℕ → ℕ → List ℕ
 laterBytes s room =
@@ -242,14 +237,7 @@ laterBytes s room =
 module _ (s : List ℕ) (room : ℕ) where
   later-is : laterNumber s room ≡ cond (eqb (judgedNumber (tablesOf s)) 0) (cond (ltb room (length s)) 20 0) (judgedNumber (tablesOf s))
   unfolding laterNumber judgedNumber firstBroken
-  later-is = let m = tablesOf s in go (badVertices m) (badBaseRecords m) (badBaseFaces m) (unusedVertices m) (ltb room (length s))
-    where
-      go : (a b c d e : Bool) → firstBroken (row 4 a ∷ row 5 b ∷ row 7 c ∷ row 8 d ∷ row 20 e ∷ []) ≡ cond (eqb (firstBroken (row 4 a ∷ row 5 b ∷ row 7 c ∷ row 8 d ∷ [])) 0) (cond e 20 0) (firstBroken (row 4 a ∷ row 5 b ∷ row 7 c ∷ row 8 d ∷ []))
-      go true b c d e = refl
-      go false true c d e = refl
-      go false false true d e = refl
-      go false false false true e = refl
-      go false false false false e = refl
+  later-is = one-after-other (judgedRows (tablesOf s)) (row 20 (ltb room (length s)) ∷ []) refl
 
   -- refused by a rule on the tables
   module _ (found : ℕ) (judged : found ≡ judgedNumber (tablesOf s)) (ne : found ≢ 0) where

@@ -12,12 +12,13 @@ use Rattle.piece.specs.Ends.{endsOf}
 use Rattle.stored.specs.Layout.{none}
 use Rattle.check_refusals.specs.Tables.{Tables, tablesOf, allVertices, allRecords, pieceAt, hangs}
 use Rattle.check_refusals.specs.Refusals.{hangsAt, leafHangs, hangingEdge}
-use Rattle.check_refusals.specs.Check.{rows, tableRows, checkNumber, firstHanging, hangingReport, reportOf, checkOf}
+use Rattle.check_refusals.specs.Check.{checkNumber, firstHanging, hangingReport, reportOf, checkOf}
 use Rattle.check_refusals.specs.Rows.{report-number}
 use Rattle.check_meaning.specs.Tests.{Passes, reads, equal, and-passes, any-passes}
 use Rattle.check_meaning.specs.Accepted.{Made, firstChild, Leaf, HasParents}
 use Rattle.check_meaning.specs.Vertices.{parents-are}
-use Rattle.check_meaning.specs.Exactly.{number-exactly}
+use Rattle.check_meaning.specs.Cuts.{rule10-holds}
+use Rattle.check_meaning.specs.Exactly.{refuses-exactly}
 
 -- "An edge hangs if it is an edge of a leaf and some made vertex has its two ends as parents.": edge e of record n.
 pub record HangingEdge (m : Tables) (n e : ℕ) : Type 0 where
@@ -73,8 +74,9 @@ module _ (m : Tables) where
 pub hanging-first : (s : List ℕ) → checkOf s .number ≡ 10 →
     HangingEdge (tablesOf s) (checkOf s .«record») (checkOf s .edge)
     × ((n e : ℕ) → HangingEdge (tablesOf s) n e → (checkOf s .«record» < n) ⊎ ((checkOf s .«record» ≡ n) × (checkOf s .edge ≤ e)))
-unfolding rows tableRows checkOf reportOf
+unfolding checkOf reportOf
 hanging-first s ten =
     let number : checkNumber s ≡ 10 = sym (report-number s) ∙ ten in
     let reported : checkOf s ≡ hangingReport (tablesOf s) = ap (reportOf (tablesOf s)) number in
-    rw reported (first-found (tablesOf s) (number-exactly s 9 .0 number .here))
+    let (h1, (h2, (h3, (h4, (h5, (h6, (h7, (h8, (h9, hanging))))))))) = refuses-exactly s 10 .0 number in
+    rw reported (first-found (tablesOf s) (⊎-elim (λ t. t) (λ f. absurd (hanging (rule10-holds (tablesOf s) .0 f))) (either (hangingEdge (tablesOf s)))))

@@ -7,7 +7,6 @@ pub mod Vertices
 pub mod Bases
 pub mod Faces
 pub mod Cuts
-pub mod Order
 pub mod Exactly
 pub mod HangingFirst
 pub mod Descent

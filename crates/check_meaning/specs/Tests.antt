@@ -16,7 +16,7 @@ abbrev pub Fails : Bool → Type 0 → Type 0
 Fails b P = (b ≡ false) ↔ P
 
 -- A test read, then said in other words.
-pub reads : {b v : Bool} {P Q : Type 0} → ((b ≡ v) ↔ P) → (P → Q) → (Q → P) → (b ≡ v) ↔ Q
+pub reads : {A P Q : Type 0} → (A ↔ P) → (P → Q) → (Q → P) → A ↔ Q
 reads h f g = (λ e. f (h .0 e), λ q. h .1 (g q))
 
 -- ---- comparisons

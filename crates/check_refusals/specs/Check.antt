@@ -1,24 +1,17 @@
 -- What check answers, for every byte string: document 01, "Numbers we give back".
 use mathlib.Core.Path.{_≡_, sym, _∙_}
-use mathlib.Core.Bool.{Bool, cond}
+use mathlib.Core.Bool.{cond}
 use mathlib.Core.List.{List, [], _∷_}
 use Prim.Native.Nat.{ℕ}
 use lib.Dec.{eqb}
 use Rattle.laws.specs.Below.{countBelow, greatestBelow, sumBelow, firstBelow}
+use Rattle.laws.specs.Order.{Row, row, firstBroken}
 use Rattle.stored.specs.declared.Vertex.{Vertex}
 use Rattle.stored.specs.declared.Record.{Record}
 use Rattle.stored.specs.Layout.{limits, headerOf}
 use Rattle.check_refusals.specs.declared.Report.{Report}
 use Rattle.check_refusals.specs.Tables.{Tables, tablesOf, allRecords, uncut, isLeaf, sixfoldAt}
 use Rattle.check_refusals.specs.Refusals.{wrongLength, wrongMark, wrongCounts, badVertices, badBaseRecords, badBaseMarks, badBaseFaces, unusedVertices, badCuts, hangsAt, leafHangs, hangingEdge}
-
--- A row of the table: a number, and whether its rule is broken.
-pub record Row : Type 0 where
-  pub number : ℕ
-  pub broken : Bool
-
-abbrev pub row : ℕ → Bool → Row
-row n b = record { number = n; broken = b }
 
 -- Refusals 4 to 10, of the tables.
 unfoldable pub tableRows : Tables → List Row
@@ -37,10 +30,6 @@ unfoldable pub rows : List ℕ → List Row
 rows s = row 1 (wrongLength s) ∷ row 2 (wrongMark s) ∷ row 3 (wrongCounts limits (headerOf s)) ∷ tableRows (tablesOf s)
 
 -- "The first rule broken, in the order of the numbers, names the refusal."; 0 where none is.
-unfoldable pub firstBroken : List Row → ℕ
-firstBroken [] = 0
-firstBroken (r ∷ rest) = let later = firstBroken rest in cond (r .broken) (r .number) later
-
 unfoldable pub checkNumber : List ℕ → ℕ
 checkNumber s = firstBroken (rows s)
 

@@ -1,14 +1,15 @@
 -- The rules in their order, as the code tries them.
-use mathlib.Core.Path.{_≡_, refl, sym, _∙_}
-use mathlib.Core.Bool.{Bool, true, false, cond}
-use mathlib.Core.List.{List, [], _∷_}
+use mathlib.Core.Path.{_≡_, sym, _∙_}
+use mathlib.Core.Bool.{true, false, cond}
+use mathlib.Core.List.{List}
 use Prim.Native.Nat.{ℕ}
+use Rattle.laws.specs.Order.{firstBroken, in-turn}
 use Rattle.stored.specs.Layout.{limits, headerOf, rightLength, rightMark}
-use Rattle.check_hanging.specs.Hanging.{noneBroken, foundOf, reported, found-reported}
+use Rattle.check_hanging.specs.Hanging.{foundOf, reported, found-reported}
 use Rattle.check_refusals.specs.Tables.{Tables, tablesOf}
 use Rattle.check_refusals.specs.declared.Report.{Report}
-use Rattle.check_refusals.specs.Refusals.{wrongLength, wrongMark, wrongCounts, badVertices, badBaseRecords, badBaseMarks, badBaseFaces, unusedVertices, badCuts, hangingEdge}
-use Rattle.check_refusals.specs.Check.{row, tableRows, rows, firstBroken, checkNumber, refusedWith, hangingReport, reportOf, checkOf}
+use Rattle.check_refusals.specs.Refusals.{wrongLength, wrongMark, wrongCounts, badVertices, badBaseRecords, badBaseMarks, badBaseFaces, unusedVertices, badCuts}
+use Rattle.check_refusals.specs.Check.{tableRows, rows, checkNumber, refusedWith, reportOf, checkOf}
 use Rattle.check_service.specs.Verdict.{withoutFigures}
 
 -- Refusals 4 to 10, tried in their order, or 0.
@@ -20,21 +21,6 @@ judgedReport m =
     (cond (badBaseFaces m) (refusedWith 7)
     (cond (unusedVertices m) (refusedWith 8)
     (cond (badCuts m) (refusedWith 9) (reported (foundOf m)))))))
-
--- ---- the order of the rules
-
-in-order : (m : Tables) (b₄ b₅ b₆ b₇ b₈ b₉ b₁₀ : Bool) →
-    withoutFigures (reportOf m (firstBroken (row 4 b₄ ∷ row 5 b₅ ∷ row 6 b₆ ∷ row 7 b₇ ∷ row 8 b₈ ∷ row 9 b₉ ∷ row 10 b₁₀ ∷ [])))
-    ≡ cond b₄ (refusedWith 4) (cond b₅ (refusedWith 5) (cond b₆ (refusedWith 6) (cond b₇ (refusedWith 7) (cond b₈ (refusedWith 8) (cond b₉ (refusedWith 9) (cond b₁₀ (hangingReport m) noneBroken))))))
-unfolding reportOf firstBroken
-in-order m true b₅ b₆ b₇ b₈ b₉ b₁₀ = refl
-in-order m false true b₆ b₇ b₈ b₉ b₁₀ = refl
-in-order m false false true b₇ b₈ b₉ b₁₀ = refl
-in-order m false false false true b₈ b₉ b₁₀ = refl
-in-order m false false false false true b₉ b₁₀ = refl
-in-order m false false false false false true b₁₀ = refl
-in-order m false false false false false false true = refl
-in-order m false false false false false false false = refl
 
 module _ (s : List ℕ) where
   pub verdict-1 : rightLength s ≡ false → refusedWith 1 ≡ withoutFigures (checkOf s)
@@ -50,11 +36,9 @@ module _ (s : List ℕ) where
   verdict-3 e f g = rw (e, f, g)
 
   pub verdict-rest : rightLength s ≡ true → rightMark s ≡ true → wrongCounts limits (headerOf s) ≡ false → judgedReport (tablesOf s) ≡ withoutFigures (checkOf s)
-  unfolding checkOf checkNumber rows firstBroken wrongLength wrongMark judgedReport tableRows
+  unfolding checkOf checkNumber rows firstBroken reportOf wrongLength wrongMark judgedReport tableRows
   verdict-rest e f g =
-      let m = tablesOf s in
-      rw (e, f, g, found-reported m)
-      (sym (in-order m (badVertices m) (badBaseRecords m) (badBaseMarks m) (badBaseFaces m) (unusedVertices m) (badCuts m) (hangingEdge m)))
+      let m = tablesOf s in rw (e, f, g, found-reported m) (sym (in-turn (λ n. withoutFigures (reportOf m n)) (tableRows m)))
 
   -- Where rules 1 to 9 hold, what check reports, but for the figures, is the paper's number and values for what the search found.
   pub verdict-found : rightLength s ≡ true → rightMark s ≡ true → wrongCounts limits (headerOf s) ≡ false → let m = tablesOf s in

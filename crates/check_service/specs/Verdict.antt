@@ -4,16 +4,15 @@ use mathlib.Core.Bool.{Bool, true, false, cond}
 use mathlib.Core.Logic.{_≢_}
 use mathlib.Core.List.{List}
 use Prim.Native.Nat.{ℕ}
-use native.Mathlib.Omega.{arith}
 use lib.Dec.{eqb}
 use borrow.Author.Tests.{ne-eqb}
-use Rattle.stored.specs.Layout.{limits, headerOf}
+use Rattle.laws.specs.Order.{none-broken}
+use Rattle.stored.specs.Layout.{headerOf}
 use Rattle.check_refusals.specs.Tables.{tablesOf}
 use Rattle.check_refusals.specs.declared.Report.{Report}
-use Rattle.check_refusals.specs.Refusals.{wrongLength, wrongMark, wrongCounts}
 use Rattle.check_refusals.specs.Bounded.{Bounded, bounded}
 use Rattle.check_refusals.specs.Rows.{report-number}
-use Rattle.check_refusals.specs.Check.{rows, tableRows, firstBroken, checkNumber, refusedWith, accepted, hangingReport, reportOf, checkOf}
+use Rattle.check_refusals.specs.Check.{rows, tableRows, checkNumber, refusedWith, accepted, hangingReport, reportOf, checkOf}
 
 -- The number, record and edge of a report, and 0 for leaves, deepest and sixfold.
 abbrev pub withoutFigures : Report → Report
@@ -43,12 +42,5 @@ module _ (s : List ℕ) where
 
   -- Its counts are within their bounds.
   pub accepted-bounded : checkOf s .number ≡ 0 → Bounded (headerOf s)
-  unfolding checkNumber rows firstBroken
-  accepted-bounded e =
-      bounded (headerOf s) (go (wrongLength s) (wrongMark s) (wrongCounts limits (headerOf s)) (sym (report-number s) ∙ e))
-    where
-      go : (a b c : Bool) → cond a 1 (cond b 2 (cond c 3 (firstBroken (tableRows (tablesOf s))))) ≡ 0 → c ≡ false
-      go true b c q = absurd (omega arith)
-      go false true c q = absurd (omega arith)
-      go false false true q = absurd (omega arith)
-      go false false false q = refl
+  unfolding checkNumber rows tableRows
+  accepted-bounded e = bounded (headerOf s) (none-broken (rows s) refl (sym (report-number s) ∙ e) 3)

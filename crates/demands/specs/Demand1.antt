@@ -24,6 +24,7 @@ use borrow.Author.Tests.{ltb-true, ltb-false}
 use Rattle.laws.specs.Below.{either}
 use Rattle.check_refusals.specs.Tables.{tablesOf}
 use Rattle.laws.specs.Lists.{Bytes}
+use Rattle.laws.specs.Order.{OneOf}
 use Rattle.stored.specs.Layout.{limits, meshLength, headerOf, Mesh, meshBytes}
 use Rattle.check_refusals.specs.declared.Report.{Report}
 use Rattle.check_refusals.specs.Check.{checkNumber, checkOf}
@@ -84,7 +85,7 @@ pub record BuildOutcome (job : ℕ) (coordinates : List ℤ) (corners : List ℕ
   -- "either a mesh", which check accepts; "or a numbered refusal", one of those that build tries, "21, then 3, 4, 5, 7, 8, 20", and "all zeros".
   pub either :
       ((number ≡ 0) × (out : MeshIn bytes room) × (checkNumber (meshBytes (out .mesh)) ≡ 0))
-      ⊎ (((number ≡ 21) ⊎ (number ≡ 3) ⊎ (number ≡ 4) ⊎ (number ≡ 5) ⊎ (number ≡ 7) ⊎ (number ≡ 8) ⊎ (number ≡ 20)) × (bytes ≡ replicate room 0))
+      ⊎ (OneOf (21 ∷ 3 ∷ 4 ∷ 5 ∷ 7 ∷ 8 ∷ 20 ∷ []) number × (bytes ≡ replicate room 0))
   -- The output buffer keeps its length.
   pub length : length bytes ≡ room
 
@@ -141,16 +142,13 @@ build-outcome job coordinates corners types room =
     record {
       either = ⊎-elim
           (λ e. inl (e, built e, built-checked job coordinates corners room e given))
-          (λ n. inr (refused n (build-number job coordinates corners room), Build.refused-bytes job coordinates corners room n))
+          (λ n. inr (⊎-elim (λ e. absurd (n e)) (λ other. other) (build-number job coordinates corners room), Build.refused-bytes job coordinates corners room n))
           (zero-or-not (buildNumber job coordinates corners room));
       length = Build.output-length job coordinates corners room;
     }
   where
     given : Given job coordinates corners
     given = given-by-types job coordinates corners types
-
-    refused : {n : ℕ} → n ≢ 0 → (n ≡ 0) ⊎ (n ≡ 21) ⊎ (n ≡ 3) ⊎ (n ≡ 4) ⊎ (n ≡ 5) ⊎ (n ≡ 7) ⊎ (n ≡ 8) ⊎ (n ≡ 20) → (n ≡ 21) ⊎ (n ≡ 3) ⊎ (n ≡ 4) ⊎ (n ≡ 5) ⊎ (n ≡ 7) ⊎ (n ≡ 8) ⊎ (n ≡ 20)
-    refused other given = ⊎-elim (λ e. absurd (other e)) (λ later. later) given
 
     built : buildNumber job coordinates corners room ≡ 0 → MeshIn (buildBytes job coordinates corners room) room
     built e =

@@ -3,29 +3,30 @@
 use mathlib.Core.Path.{_≡_}
 use mathlib.Core.Logic.{_↔_}
 use mathlib.Core.List.{List}
-use Prim.Native.Nat.{ℕ, suc}
+use Prim.Native.Nat.{ℕ}
 use lib.IntN.{ℤ}
+use Rattle.laws.specs.Order.{Giving}
 use Rattle.check_refusals.specs.Check.{checkNumber}
 use Rattle.check_meaning.specs.Exactly as Check
-use Rattle.check_meaning.specs.Exactly.{Rule, RulesBefore}
+use Rattle.check_meaning.specs.Exactly.{checkRules}
 use Rattle.refine_service.specs.Refine.{refineNumber}
 use Rattle.demands.specs.Words.{ArgumentTypes}
 use Rattle.demands.specs.BuildNumbers as Build
 use Rattle.demands.specs.BuildNumbers.{BuildExactly}
 use Rattle.demands.specs.RefineNumbers as Refine
-use Rattle.demands.specs.RefineNumbers.{RefineRule, RefineRulesBefore, RefineAccepts}
+use Rattle.demands.specs.RefineNumbers.{refineRules, RefineAccepts}
 use Rattle.demands.specs.GivenTypes.{given-by-types}
 
--- Check, 1 to 10: every rule with a smaller number holds, and this one does not.
-pub check-refuses : (mesh : List ℕ) (n : ℕ) → (checkNumber mesh ≡ suc n) ↔ (RulesBefore mesh (suc n) × (Rule mesh (suc n) → ⊥))
+-- Check: every rule before it in the list holds, and its own does not; 0 where all hold.
+pub check-refuses : (mesh : List ℕ) (n : ℕ) → (checkNumber mesh ≡ n) ↔ Giving (checkRules mesh) n
 check-refuses = Check.refuses-exactly
 
--- Build, 21, 3, 4, 5, 7, 8, 20, and 0.
+-- Build likewise.
 pub build-gives : (job : ℕ) (coordinates : List ℤ) (corners : List ℕ) (room : ℕ) → ArgumentTypes job coordinates corners → BuildExactly job coordinates corners room
 build-gives job coordinates corners room types = Build.build-exactly job coordinates corners room (given-by-types job coordinates corners types)
 
--- Refine, 1 to 20, and 0.
-pub refine-refuses : (mesh selection : List ℕ) (room n : ℕ) → (refineNumber mesh selection room ≡ suc n) ↔ (RefineRulesBefore mesh selection room (suc n) × (RefineRule mesh selection room (suc n) → ⊥))
+-- Refine likewise.
+pub refine-refuses : (mesh selection : List ℕ) (room n : ℕ) → (refineNumber mesh selection room ≡ n) ↔ Giving (refineRules mesh selection room) n
 refine-refuses = Refine.refine-refuses-exactly
 
 pub refine-accepts : (mesh selection : List ℕ) (room : ℕ) → (refineNumber mesh selection room ≡ 0) ↔ RefineAccepts mesh selection room

@@ -11,27 +11,26 @@ use lib.IntN.{ℤ}
 use lib.Dec.{eqb, ltb}
 use borrow.Author.Tests.{eqb-true, eqb-false, ne-eqb, lt-ltb, le-ltb, ltb-false, eq-eqb}
 use Rattle.laws.specs.Below.{either, list-length}
+use Rattle.laws.specs.Order.{OneOf, one-of-them, brokenAt, none-broken}
 use Rattle.laws.specs.Lists.{Bytes, joined, joined-length}
 use Rattle.stored.specs.Layout.{vertexWidth, recordWidth, limits, lastRound, meshLength, headerOf, headerBytes, vertexBytes, recordBytes, Mesh, meshBytes}
 use Rattle.stored.specs.Fitting.{HeaderFits, header-fits}
 use Rattle.stored.specs.Entries.{header-wide, vertex-wide, record-wide, header-again}
 use Rattle.check_refusals.specs.declared.Report.{Report}
 use Rattle.check_refusals.specs.Tables.{Tables, tablesOf, allRecords, isLeaf, pieceAt}
-use Rattle.check_refusals.specs.Refusals.{wrongCounts, badVertices, badBaseRecords, badBaseFaces, unusedVertices}
-use Rattle.check_refusals.specs.Check.{firstBroken, checkNumber, accepted, refusedWith, hangingReport, reportOf, checkOf}
+use Rattle.check_refusals.specs.Check.{checkNumber, accepted, refusedWith, hangingReport, reportOf, checkOf}
 use Rattle.check_refusals.specs.Bounded.{Bounded, bounded}
 use Rattle.check_refusals.specs.Rows.{check-small, report-number}
 use Rattle.check_meaning.specs.Exactly.{accepts-exactly}
 use Rattle.build_marks.specs.Marking.{plainVertex, plainRecord}
-use Rattle.build_service.specs.Build.{notWhole, plainHeader, plainMesh, plainBytes, buildRows, buildNumber, buildBytes}
+use Rattle.build_service.specs.Build.{plainHeader, plainMesh, plainBytes, buildRows, buildNumber, buildBytes}
 use Rattle.build_meaning.specs.Written.{Given}
 use Rattle.build_meaning.specs.Accepts.{passed, build-fits, check-accepts}
 use Rattle.build_meaning.specs.Output as Build
 use Rattle.refine_pass.specs.Law.{within}
-use Rattle.refine_pass.specs.Passes.{exceeds}
 use Rattle.refine_service.specs.Refine.{closed, resultOf, resultRows, refineNumber, refineBytes}
 use Rattle.refine_service.specs.Order.{selectionNumber, not-last}
-use Rattle.refine_service.specs.Storing.{laterNumber, storedNumber, refine-judged, refine-selected, refine-later}
+use Rattle.refine_service.specs.Storing.{laterNumber, storedNumber, refine-none}
 use Rattle.refine_meaning.specs.Answer as Refine
 use Rattle.refine_meaning.specs.Answer.{job-kept, round-next, base-vertices-kept, base-records-kept}
 use Rattle.list_text.specs.Text.{lineFeed, figures}
@@ -110,23 +109,9 @@ module _ (job : ℕ) (coordinates : List ℤ) (corners : List ℕ) where
   built-as-long = mesh-as-long (plainMesh job coordinates corners) built-vertices built-records
 
 module _ (job : ℕ) (coordinates : List ℤ) (corners : List ℕ) (room : ℕ) where
-  pub build-number : let n = buildNumber job coordinates corners room in
-      (n ≡ 0) ⊎ (n ≡ 21) ⊎ (n ≡ 3) ⊎ (n ≡ 4) ⊎ (n ≡ 5) ⊎ (n ≡ 7) ⊎ (n ≡ 8) ⊎ (n ≡ 20)
-  unfolding buildNumber buildRows firstBroken
-  build-number =
-      let m = tablesOf (plainBytes job coordinates corners) in
-      go (notWhole coordinates corners) (wrongCounts limits (plainHeader job coordinates corners)) (badVertices m) (badBaseRecords m) (badBaseFaces m) (unusedVertices m) (ltb room (length (plainBytes job coordinates corners)))
-    where
-      go : (a b c d e f g : Bool) → let n : ℕ = cond a 21 (cond b 3 (cond c 4 (cond d 5 (cond e 7 (cond f 8 (cond g 20 0)))))) in
-          (n ≡ 0) ⊎ (n ≡ 21) ⊎ (n ≡ 3) ⊎ (n ≡ 4) ⊎ (n ≡ 5) ⊎ (n ≡ 7) ⊎ (n ≡ 8) ⊎ (n ≡ 20)
-      go true b c d e f g = inr (inl refl)
-      go false true c d e f g = inr (inr (inl refl))
-      go false false true d e f g = inr (inr (inr (inl refl)))
-      go false false false true e f g = inr (inr (inr (inr (inl refl))))
-      go false false false false true f g = inr (inr (inr (inr (inr (inl refl)))))
-      go false false false false false true g = inr (inr (inr (inr (inr (inr (inl refl))))))
-      go false false false false false false true = inr (inr (inr (inr (inr (inr (inr refl))))))
-      go false false false false false false false = inl refl
+  pub build-number : OneOf (0 ∷ 21 ∷ 3 ∷ 4 ∷ 5 ∷ 7 ∷ 8 ∷ 20 ∷ []) (buildNumber job coordinates corners room)
+  unfolding buildNumber buildRows
+  build-number = one-of-them (buildRows job coordinates corners room)
 
   module _ (e : buildNumber job coordinates corners room ≡ 0) where
     pub built-few : Bounded (plainMesh job coordinates corners .header)
@@ -179,35 +164,23 @@ module _ (mesh selection : List ℕ) (room : ℕ) where
   refine-refused n = Refine.refused-bytes mesh selection room (ne-eqb number 0 n)
 
   module _ (e : refineNumber mesh selection room ≡ 0) where
-    -- The mesh is accepted, the selection can be used, and the result is neither too large for the tables nor for the buffer.
-    checked : checkNumber mesh ≡ 0
-    checked = ⊎-elim (λ t. eqb-true (checkNumber mesh) 0 t) (λ f. refine-judged mesh selection room f .0 ∙ e) (either (eqb (checkNumber mesh) 0))
-
+    -- The selection can be used, and the result is neither too large for the tables nor for the buffer.
     selected : selectionNumber (tablesOf mesh) selection ≡ 0
-    selected =
-        ⊎-elim
-        (λ t. eqb-true (selectionNumber (tablesOf mesh) selection) 0 t)
-        (λ f. refine-selected mesh selection room checked f .0 ∙ e)
-        (either (eqb (selectionNumber (tablesOf mesh) selection) 0))
+    selected = refine-none mesh selection room .0 e .1 .0
 
-    stored : (exceeds limits (closed mesh selection .header) ≡ false) × (ltb room (meshLength (closed mesh selection .header .vertices) (closed mesh selection .header .records)) ≡ false)
-    unfolding laterNumber storedNumber resultRows firstBroken
-    stored = go _ _ (refine-later mesh selection room checked selected ∙ e)
-      where
-        go : (a b : Bool) → _≡_ {A = ℕ} (cond a 19 (cond b 20 0)) 0 → (a ≡ false) × (b ≡ false)
-        go true b q = absurd (omega arith)
-        go false true q = absurd (omega arith)
-        go false false q = (refl, refl)
+    stored : (n : ℕ) → brokenAt (resultRows (closed mesh selection .header) room) n ≡ false
+    unfolding laterNumber storedNumber resultRows
+    stored = none-broken (resultRows (closed mesh selection .header) room) refl (refine-none mesh selection room .0 e .1 .1)
 
     pub refined-few : (resultOf (closed mesh selection) .header .vertices ≤ limits .vertices) × (resultOf (closed mesh selection) .header .records ≤ limits .records)
-    unfolding resultOf
-    refined-few = within limits (closed mesh selection .header) (stored .0)
+    unfolding resultOf resultRows
+    refined-few = within limits (closed mesh selection .header) (stored 19)
 
     pub refined-within : length (meshBytes (resultOf (closed mesh selection))) ≤ room
-    unfolding resultOf
+    unfolding resultOf resultRows
     refined-within =
         let h = closed mesh selection .header in
-        omega (arith, refined-as-long mesh selection, ltb-false room (meshLength (h .vertices) (h .records)) (stored .1))
+        omega (arith, refined-as-long mesh selection, ltb-false room (meshLength (h .vertices) (h .records)) (stored 20))
 
     pub refined-header : Bytes mesh → headerOf (refineBytes mesh selection room) ≡ resultOf (closed mesh selection) .header
     unfolding tablesOf

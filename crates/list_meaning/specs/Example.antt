@@ -13,7 +13,8 @@ use Rattle.grid_volume.specs.Volume.{minorOf, determinantOf, differenceOf, diff
 use Rattle.stored.specs.Layout.{marked, markBytes, rightMark, rightLength, headerOf, headerBytes, orNone, storedOrNone, heldIn, vertexIn, vertexFrom, vertexBytes, recordIn, recordFrom, recordBytes, meshBytes}
 use Rattle.check_refusals.specs.Tables.{tablesOf, hasParents, vertexWith, hangs, sixfoldAt}
 use Rattle.check_refusals.specs.Refusals.{wrongLength, wrongMark, wrongCounts, badVertices, badVertex, badBaseVertex, placeTwice, badMadeVertex, pairTwice, badBaseRecords, badBaseRecord, badPiece, equalCorners, cornerNotInBase, badBaseMarks, badMarks, badBaseFaces, badFaces, badWith, badTogether, faceInThree, faceBefore, hasFace, sameFace, faceWithin, faceHas, sameCorners, cornersWithin, hasCorner, twoMarks, twoMarksOn, sameMark, sameEnds, unusedVertices, unusedVertex, badCuts, badRecord, badCut, badChildren, isChildOf, notChildOfOne, tooDeep, isMidpointOf, noMidpoint, hangsAt, leafHangs, hangingEdge}
-use Rattle.check_refusals.specs.Check.{tableRows, rows, firstBroken, checkNumber, reportOf, checkOf, leaves, leafGeneration, deepest, leafSixfold, sixfold}
+use Rattle.laws.specs.Order.{firstBroken}
+use Rattle.check_refusals.specs.Check.{tableRows, rows, checkNumber, reportOf, checkOf, leaves, leafGeneration, deepest, leafSixfold, sixfold}
 use Rattle.refine_meaning.specs.Rows.{K-cut}
 use Rattle.list_text.specs.Text.{word, lineFeed, digit, decimalIn, decimal, figures}
 use Rattle.list_lines.specs.Lines.{refusedLine, countFigures, checkFigures, headingLine, cornerFigures, edgeFigures, leafLine}

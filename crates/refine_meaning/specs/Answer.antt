@@ -4,22 +4,25 @@ use mathlib.Core.Bool.{true, false}
 use mathlib.Core.List.{List, _++_}
 use Prim.Native.Nat.{ℕ, _+_, _-_, _≤_}
 use lib.ListN.{length, replicate}
-use lib.Dec.{eqb}
+use lib.Dec.{eqb, leb}
+use borrow.Author.Tests.{leb-true}
+use Rattle.laws.specs.Order.{given-passes}
 use Rattle.stored.specs.Layout.{limits, headerOf, meshBytes, rightSelectionLength, rightSelectionMark, selectionOf, namedIn}
 use Rattle.check_refusals.specs.Tables.{tablesOf}
 use Rattle.check_refusals.specs.Check.{rows, tableRows, checkNumber}
 use Rattle.refine_selection.specs.Selected.{anotherJob, anotherRound, isNamed}
 use Rattle.refine_pass.specs.Stays.{job-stays, round-stays, base-vertices-stay, base-records-stay}
 use Rattle.refine_service.specs.Refine.{closed, resultOf, selectionRows, resultRows, refineNumber, refineBytes}
-use Rattle.check_refusals.specs.Rows.{numberedTo, first-at-most}
 use Rattle.refine_service.specs.Order.{selectionNumber, selection-13, selection-14}
 use Rattle.refine_service.specs.Storing.{refine-selected}
 
 module _ (mesh selection : List ℕ) (room : ℕ) where
   -- "Refine gives 1 to 20", or 0.
   pub number-at-most : refineNumber mesh selection room ≤ 20
-  unfolding refineNumber numberedTo rows tableRows selectionRows resultRows
-  number-at-most = first-at-most 20 (rows mesh ++ selectionRows (tablesOf mesh) selection ++ resultRows (closed mesh selection .header) room) refl
+  unfolding refineNumber rows tableRows selectionRows resultRows
+  number-at-most =
+      leb-true (refineNumber mesh selection room) 20
+      (given-passes (λ n. leb n 20) (rows mesh ++ (selectionRows (tablesOf mesh) selection ++ resultRows (closed mesh selection .header) room)) refl)
 
   -- "After a refusal the output buffer is zero throughout"
   pub refused-bytes : eqb (refineNumber mesh selection room) 0 ≡ false → refineBytes mesh selection room ≡ replicate room 0

@@ -9,14 +9,14 @@ use native.Mathlib.Omega.{arith}
 use lib.Dec.{eqb}
 use borrow.Author.Tests.{eqb-true, eqb-false, ne-eqb}
 use Rattle.laws.specs.Below.{either, putAt, anyBelow, any-none, any-fails, any-fails-at, put-same, put-other}
+use Rattle.laws.specs.Order.{none-broken}
 use Rattle.piece_cut.specs.Cut.{cutOf}
 use Rattle.stored.specs.declared.Limits.{Limits}
 use Rattle.stored.specs.declared.Record.{Record}
 use Rattle.stored.specs.Layout.{limits, selectionOf, namedIn}
 use Rattle.check_refusals.specs.Tables.{Tables, tablesOf, uncut, allVertices, allRecords, pieceAt, vertexWith, refinementEnds}
-use Rattle.check_refusals.specs.Refusals.{wrongLength, wrongMark, wrongCounts, badVertices, badBaseRecords, badBaseMarks, badBaseFaces, unusedVertices, badCuts, hangsAt, leafHangs, hangingEdge}
-use Rattle.check_refusals.specs.Check.{rows, tableRows, firstBroken, checkNumber}
-use Rattle.stored.specs.Layout.{headerOf}
+use Rattle.check_refusals.specs.Refusals.{hangsAt, leafHangs, hangingEdge}
+use Rattle.check_refusals.specs.Check.{rows, tableRows, checkNumber}
 use Rattle.refine_selection.specs.Selected.{namesCut, isNamed}
 use Rattle.refine_cut.specs.Cut.{withMidpoint, withChildren, cutRecord, leafRecord, cutAt}
 use Rattle.refine_pass.specs.Passes.{exceeds, turn, passBelow, pass, closing, refined}
@@ -180,23 +180,8 @@ closing-over most (suc passes) m e = rw e
 
 -- In a mesh that check accepts nothing hangs.
 nothing-hangs : (s : List ℕ) → checkNumber s ≡ 0 → hangingEdge (tablesOf s) ≡ false
-unfolding checkNumber rows tableRows firstBroken
-nothing-hangs s e =
-    let m = tablesOf s in
-    go (wrongLength s) (wrongMark s) (wrongCounts limits (headerOf s)) (badVertices m) (badBaseRecords m) (badBaseMarks m) (badBaseFaces m) (unusedVertices m) (badCuts m) (hangingEdge m) e
-  where
-    go : (a b c d f g h i j k : Bool) → _≡_ {A = ℕ} (cond a 1 (cond b 2 (cond c 3 (cond d 4 (cond f 5 (cond g 6 (cond h 7 (cond i 8 (cond j 9 (cond k 10 0)))))))))) 0 → k ≡ false
-    go a b c d f g h i j false q = refl
-    go true b c d f g h i j true q = absurd (omega arith)
-    go false true c d f g h i j true q = absurd (omega arith)
-    go false false true d f g h i j true q = absurd (omega arith)
-    go false false false true f g h i j true q = absurd (omega arith)
-    go false false false false true g h i j true q = absurd (omega arith)
-    go false false false false false true h i j true q = absurd (omega arith)
-    go false false false false false false true i j true q = absurd (omega arith)
-    go false false false false false false false true j true q = absurd (omega arith)
-    go false false false false false false false false true true q = absurd (omega arith)
-    go false false false false false false false false false true q = absurd (omega arith)
+unfolding checkNumber rows tableRows
+nothing-hangs s e = none-broken (rows s) refl e 10
 
 -- "an empty selection is a round": the tables are those of the mesh, so that the round alone is another.
 pub empty-changes-nothing : (mesh selection : List ℕ) → checkNumber mesh ≡ 0 → selectionOf selection .count ≡ 0 → closed mesh selection ≡ tablesOf mesh

@@ -1,14 +1,12 @@
 -- The rules in their order, as the code tries them.
 use mathlib.Core.Path.{_≡_, refl}
-use mathlib.Core.Bool.{Bool, true, false, not, cond}
-use mathlib.Core.List.{List, [], _∷_, _++_}
+use mathlib.Core.Bool.{true, false}
+use mathlib.Core.List.{List, [], _∷_}
 use Prim.Native.Nat.{ℕ}
-use native.Mathlib.Omega.{arith}
 use lib.Dec.{eqb}
+use Rattle.laws.specs.Order.{row, firstBroken, none-broken}
 use Rattle.stored.specs.Layout.{lastRound, rightSelectionLength, rightSelectionMark, selectionOf, namedIn}
 use Rattle.check_refusals.specs.Tables.{Tables}
-use Rattle.check_refusals.specs.Check.{Row, row, firstBroken}
-use Rattle.check_refusals.specs.Rows.{numberedTo, first-later}
 use Rattle.refine_selection.specs.Selected.{wrongSelectionLength, wrongSelectionMark, anotherJob, anotherRound, badNumbers, namesCut, namesLast}
 use Rattle.refine_service.specs.Refine.{selectionRows}
 
@@ -75,28 +73,7 @@ module _ (m : Tables) (t : List ℕ) where
         unfolding selectionNumber selectionRows firstBroken wrongSelectionLength wrongSelectionMark namedNumber
         selection-rest d = rw (a, b, c, d)
 
-selection-numbered : (m : Tables) (t : List ℕ) → numberedTo 18 (selectionRows m t) ≡ true
-unfolding numberedTo selectionRows
-selection-numbered m t = refl
-
-pub after-selection : (m : Tables) (t : List ℕ) (b : List Row) → selectionNumber m t ≡ 0 → firstBroken (selectionRows m t ++ b) ≡ firstBroken b
-unfolding selectionNumber
-after-selection m t b e = first-later 18 (selectionRows m t) b (selection-numbered m t) e
-
 -- Where none of 11 to 18 is broken, the round is not the last.
 pub not-last : (m : Tables) (t : List ℕ) → selectionNumber m t ≡ 0 → eqb (m .header .round) lastRound ≡ false
-unfolding selectionNumber selectionRows firstBroken
-not-last m t e =
-    go (wrongSelectionLength t) (wrongSelectionMark t) (anotherJob (m .header) (selectionOf t)) (anotherRound (m .header) (selectionOf t))
-    (badNumbers (m .header .records) (selectionOf t .count) (namedIn t)) (namesCut (m .recordAt) (selectionOf t .count) (namedIn t)) (namesLast (m .recordAt) (selectionOf t .count) (namedIn t)) (eqb (m .header .round) lastRound) e
-  where
-    go : (a b c d f g h i : Bool) → _≡_ {A = ℕ} (cond a 11 (cond b 12 (cond c 13 (cond d 14 (cond f 15 (cond g 16 (cond h 17 (cond i 18 0)))))))) 0 → i ≡ false
-    go a b c d f g h false q = refl
-    go true b c d f g h true q = absurd (omega arith)
-    go false true c d f g h true q = absurd (omega arith)
-    go false false true d f g h true q = absurd (omega arith)
-    go false false false true f g h true q = absurd (omega arith)
-    go false false false false true g h true q = absurd (omega arith)
-    go false false false false false true h true q = absurd (omega arith)
-    go false false false false false false true true q = absurd (omega arith)
-    go false false false false false false false true q = absurd (omega arith)
+unfolding selectionNumber selectionRows
+not-last m t e = none-broken (selectionRows m t) refl e 18

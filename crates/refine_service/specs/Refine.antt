@@ -6,10 +6,11 @@ use Prim.Native.Nat.{ℕ, _+_, _-_}
 use lib.ListN.{length, replicate}
 use lib.Dec.{eqb, ltb}
 use Rattle.laws.specs.Below.{listBelow}
+use Rattle.laws.specs.Order.{Row, row, firstBroken}
 use Rattle.stored.specs.declared.Header.{Header}
 use Rattle.stored.specs.Layout.{limits, lastRound, meshLength, Mesh, meshBytes, selectionOf, namedIn}
 use Rattle.check_refusals.specs.Tables.{Tables, tablesOf, allVertices, allRecords}
-use Rattle.check_refusals.specs.Check.{Row, row, rows, firstBroken}
+use Rattle.check_refusals.specs.Check.{rows}
 use Rattle.refine_selection.specs.Selected.{wrongSelectionLength, wrongSelectionMark, anotherJob, anotherRound, badNumbers, namesCut, namesLast, isNamed}
 use Rattle.refine_pass.specs.Passes.{exceeds, refined}
 
@@ -60,7 +61,7 @@ resultRows h room = row 19 (exceeds limits h) ∷ row 20 (ltb room (meshLength (
 -- "Refine gives 1 to 20": 1 to 10 are check's own.
 unfoldable pub refineNumber : List ℕ → List ℕ → ℕ → ℕ
 refineNumber mesh selection room =
-    firstBroken (rows mesh ++ selectionRows (tablesOf mesh) selection ++ resultRows (closed mesh selection .header) room)
+    firstBroken (rows mesh ++ (selectionRows (tablesOf mesh) selection ++ resultRows (closed mesh selection .header) room))
 
 -- "After a refusal the output buffer is zero throughout; after acceptance it is zero past the result."
 unfoldable pub refineBytes : List ℕ → List ℕ → ℕ → List ℕ

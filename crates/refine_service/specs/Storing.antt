@@ -1,23 +1,24 @@
 -- How the tables are copied, worked on and stored.
 use mathlib.Core.Path.{_≡_, refl, sym, ap, _∙_, subst}
 use mathlib.Core.Bool.{Bool, true, false, cond}
-use mathlib.Core.Logic.{_≢_}
-use mathlib.Core.List.{List, _++_, append-assoc}
+use mathlib.Core.Logic.{_↔_}
+use mathlib.Core.List.{List, _++_}
 use Prim.Native.Nat.{ℕ, zero, suc, _+_, _-_, _*_, _≤_, _<_}
 use native.Mathlib.Omega.{arith}
 use lib.ListN.{length, drop, replicate, length-replicate}
 use lib.Seq.{sets, length-sets}
-use lib.Dec.{eqb, ltb, lit<}
+use lib.Dec.{eqb, lit<}
 use borrow.Author.Tests.{eqb-true, eqb-false, lt-ltb, le-ltb, not-false}
 use Rattle.laws.specs.Lists.{Bytes, bytes-none, bytes-cons, bytes-take, bytes-drop, bytes-sets, clear-with}
 use Rattle.laws.specs.Numbers.{number-below}
+use Rattle.laws.specs.Order.{firstBroken, one-after-other, both-hold, none-broken}
 use Rattle.stored.specs.declared.Header.{Header}
 use Rattle.stored.specs.Layout.{headerWidth, vertexWidth, recordWidth, limits, lastRound, headerOf, rightLength, meshLength, layoutOf, vertexPart, recordPart, assembled, meshBytes, selectionOf, namedIn}
 use Rattle.stored.specs.Meshes.{length-says, assembled-length}
 use Rattle.stored.specs.Worked.{copied-vertices, copied-records, assembled-mesh}
 use Rattle.check_refusals.specs.Tables.{Tables, tables, tablesOf}
-use Rattle.check_refusals.specs.Refusals.{wrongLength, wrongMark, wrongCounts}
-use Rattle.check_refusals.specs.Check.{rows, tableRows, firstBroken, checkNumber}
+use Rattle.check_refusals.specs.Refusals.{wrongLength}
+use Rattle.check_refusals.specs.Check.{rows, tableRows, checkNumber}
 use Rattle.check_refusals.specs.Bounded.{bounded}
 use Rattle.refine_selection.specs.Selected.{isNamed}
 use Rattle.refine_cut.specs.Slices.{slices, tablesIn}
@@ -27,8 +28,7 @@ use Rattle.refine_pass.specs.Steps.{refined-within}
 use Rattle.refine_pass.specs.Law.{within, not-exceeds, Working, can-begin, refined-tables, refined-working}
 use Rattle.refine_pass.specs.Stays.{round-stays}
 use Rattle.refine_service.specs.Refine.{closed, nextRound, resultOf, selectionRows, resultRows, refineNumber, refineBytes}
-use Rattle.check_refusals.specs.Rows.{first-now, after-check}
-use Rattle.refine_service.specs.Order.{selectionNumber, not-last, after-selection}
+use Rattle.refine_service.specs.Order.{selectionNumber, not-last}
 
 -- ---- 19 and 20, of what the passes leave
 
@@ -98,12 +98,8 @@ same-output number room a b same = go (eqb number 0) (λ e. same (eqb-true numbe
     go false q = refl
 
 stored-few : (h : Header) (room : ℕ) → storedNumber h room ≡ 0 → exceeds limits h ≡ false
-unfolding storedNumber resultRows firstBroken
-stored-few h room e = go (exceeds limits h) (ltb room (meshLength (h .vertices) (h .records))) e
-  where
-    go : (a b : Bool) → _≡_ {A = ℕ} (cond a 19 (cond b 20 0)) 0 → a ≡ false
-    go false b q = refl
-    go true b q = absurd (omega arith)
+unfolding storedNumber resultRows
+stored-few h room e = none-broken (resultRows h room) refl e 19
 
 bytes-zeros : (n : ℕ) → Bytes (replicate n 0)
 bytes-zeros zero = bytes-none
@@ -192,31 +188,36 @@ module _ (mesh selection : List ℕ) (room : ℕ) where
   unfolding refineBytes
   refused e = rw e
 
-  refine-parts : refineNumber mesh selection room ≡ firstBroken (rows mesh ++ (selectionRows (tablesOf mesh) selection ++ resultRows (closed mesh selection .header) room))
-  unfolding refineNumber
-  refine-parts = ap firstBroken (append-assoc (rows mesh) (selectionRows (tablesOf mesh) selection) (resultRows (closed mesh selection .header) room))
+  -- 1 to 10 come first, then 11 to 18, then 19 and 20.
+  after-check : refineNumber mesh selection room ≡ cond (eqb (checkNumber mesh) 0) (firstBroken (selectionRows (tablesOf mesh) selection ++ resultRows (closed mesh selection .header) room)) (checkNumber mesh)
+  unfolding refineNumber checkNumber rows tableRows
+  after-check = one-after-other (rows mesh) (selectionRows (tablesOf mesh) selection ++ resultRows (closed mesh selection .header) room) refl
+
+  after-selection : firstBroken (selectionRows (tablesOf mesh) selection ++ resultRows (closed mesh selection .header) room)
+      ≡ cond (eqb (selectionNumber (tablesOf mesh) selection) 0) (laterNumber mesh selection room) (selectionNumber (tablesOf mesh) selection)
+  unfolding selectionNumber laterNumber storedNumber selectionRows
+  after-selection = one-after-other (selectionRows (tablesOf mesh) selection) (resultRows (closed mesh selection .header) room) refl
 
   pub refine-judged : eqb (checkNumber mesh) 0 ≡ false → (checkNumber mesh ≡ refineNumber mesh selection room) × (replicate room 0 ≡ refineBytes mesh selection room)
-  unfolding checkNumber
-  refine-judged e =
-      let n : checkNumber mesh ≡ refineNumber mesh selection room = sym (refine-parts ∙ first-now (rows mesh) (selectionRows (tablesOf mesh) selection ++ resultRows (closed mesh selection .header) room) e) in
-      (n, refused (rw (← n) e))
+  refine-judged e = let n : checkNumber mesh ≡ refineNumber mesh selection room = sym (after-check ∙ rw e) in (n, refused (rw (← n) e))
+
+  -- Where check gives 0 and no rule of the selection is broken, 19 and 20 decide.
+  pub refine-none : (refineNumber mesh selection room ≡ 0) ↔ ((checkNumber mesh ≡ 0) × ((selectionNumber (tablesOf mesh) selection ≡ 0) × (laterNumber mesh selection room ≡ 0)))
+  unfolding refineNumber checkNumber rows tableRows selectionNumber laterNumber storedNumber selectionRows
+  refine-none =
+      let first = both-hold (rows mesh) (selectionRows (tablesOf mesh) selection ++ resultRows (closed mesh selection .header) room) refl in
+      let later = both-hold (selectionRows (tablesOf mesh) selection) (resultRows (closed mesh selection .header) room) refl in
+      (λ e. (first .0 e .0, later .0 (first .0 e .1)), λ z. first .1 (z .0, later .1 (z .1)))
 
   module _ (accepted : checkNumber mesh ≡ 0) where
     pub refine-selected : eqb (selectionNumber (tablesOf mesh) selection) 0 ≡ false → (selectionNumber (tablesOf mesh) selection ≡ refineNumber mesh selection room) × (replicate room 0 ≡ refineBytes mesh selection room)
-    unfolding selectionNumber
     refine-selected e =
-        let n : selectionNumber (tablesOf mesh) selection ≡ refineNumber mesh selection room =
-        sym (refine-parts ∙ after-check mesh (selectionRows (tablesOf mesh) selection ++ resultRows (closed mesh selection .header) room) accepted
-        ∙ first-now (selectionRows (tablesOf mesh) selection) (resultRows (closed mesh selection .header) room) e) in
+        let n : selectionNumber (tablesOf mesh) selection ≡ refineNumber mesh selection room = sym (after-check ∙ rw accepted (after-selection ∙ rw e)) in
         (n, refused (rw (← n) e))
 
     module _ (right : selectionNumber (tablesOf mesh) selection ≡ 0) where
       pub refine-later : laterNumber mesh selection room ≡ refineNumber mesh selection room
-      unfolding laterNumber storedNumber
-      refine-later =
-          sym (refine-parts ∙ after-check mesh (selectionRows (tablesOf mesh) selection ++ resultRows (closed mesh selection .header) room) accepted
-          ∙ after-selection (tablesOf mesh) selection (resultRows (closed mesh selection .header) room) right)
+      refine-later = sym (after-check ∙ rw accepted (after-selection ∙ rw right))
 
       pub refine-later-bytes : laterBytes mesh selection room ≡ refineBytes mesh selection room
       unfolding laterBytes refineBytes
@@ -224,23 +225,17 @@ module _ (mesh selection : List ℕ) (room : ℕ) where
 
 -- What acceptance by check and a selection that can be used say of the mesh.
 pub copied-ready : (mesh selection out : List ℕ) → Bytes mesh → checkNumber mesh ≡ 0 → selectionNumber (tablesOf mesh) selection ≡ 0 → out ≡ replicate (length out) 0 → Copied (headerOf mesh) mesh out
-unfolding checkNumber rows firstBroken headerOf wrongLength tablesOf
+unfolding checkNumber rows tableRows headerOf wrongLength tablesOf
 copied-ready mesh selection out bytes e right clear =
-    go (wrongLength mesh) (wrongMark mesh) (wrongCounts limits (headerOf mesh)) refl refl e
-  where
-    below : headerOf mesh .round < 65536
-    below = number-below 2 (drop 9 mesh) (bytes-drop 9 mesh bytes)
-
-    long : wrongLength mesh ≡ false → length mesh ≡ meshLength (headerOf mesh .vertices) (headerOf mesh .records)
-    long w = length-says mesh (not-false (rightLength mesh) w) .1
-
-    last : headerOf mesh .round ≢ lastRound
-    last = eqb-false (headerOf mesh .round) lastRound (not-last (tablesOf mesh) selection right)
-
-    go : (a b d : Bool) → wrongLength mesh ≡ a → wrongCounts limits (headerOf mesh) ≡ d → _≡_ {A = ℕ} (cond a 1 (cond b 2 (cond d 3 (firstBroken (tableRows (tablesOf mesh)))))) 0 → Copied (headerOf mesh) mesh out
-    go true b d p q z = absurd (omega arith)
-    go false true d p q z = absurd (omega arith)
-    go false false true p q z = absurd (omega arith)
-    go false false false p q z =
-        let few = bounded (headerOf mesh) q in
-        record { header = refl; long = long p; vertices = few .vertices; records = few .records; round = omega (arith, below, last); clear = clear }
+    let holds = none-broken (rows mesh) refl e in
+    let few = bounded (headerOf mesh) (holds 3) in
+    let below = number-below 2 (drop 9 mesh) (bytes-drop 9 mesh bytes) in
+    let last = eqb-false (headerOf mesh .round) lastRound (not-last (tablesOf mesh) selection right) in
+    record {
+      header = refl;
+      long = length-says mesh (not-false (rightLength mesh) (holds 1)) .1;
+      vertices = few .vertices;
+      records = few .records;
+      round = omega (arith, below, last);
+      clear = clear;
+    }
