@@ -3,7 +3,7 @@ use mathlib.Core.Path.{_≡_, refl}
 use mathlib.Core.Logic.{_↔_}
 use mathlib.Core.List.{List, [], _∷_}
 use Prim.Native.Nat.{ℕ}
-use Rattle.laws.specs.Order.{Rule, rule, Giving, Judged, judge, done, given-exactly}
+use Rattle.laws.specs.Order.{Rule, rule, Giving, Judged, judge, done, given-exactly, accepted-exactly}
 use Rattle.stored.specs.Layout.{limits}
 use Rattle.check_refusals.specs.Tables.{tablesOf}
 use Rattle.check_refusals.specs.Check.{rows, tableRows, checkNumber}
@@ -47,8 +47,9 @@ module _ (s : List ℕ) where
 
   -- Check gives 0 exactly where all ten rules hold.
   pub accepts-exactly : (checkNumber s ≡ 0) ↔ Accepted s
+  unfolding checkNumber rows tableRows
   accepts-exactly =
-      reads (refuses-exactly 0)
+      reads (accepted-exactly check-judged refl)
       (λ (h1, (h2, (h3, (h4, (h5, (h6, (h7, (h8, (h9, (h10, end)))))))))).
       record {
         length = h1;
@@ -58,4 +59,4 @@ module _ (s : List ℕ) where
         none-hangs = h10;
       })
       (λ a. let m = a .mesh in
-      (a .length, (a .mark, ((a .limits, m .counts), (m .vertices, (m .base-records, (m .base-marks, (m .faces, (m .uses, (m .cuts, (a .none-hangs, refl)))))))))))
+      (a .length, (a .mark, ((a .limits, m .counts), (m .vertices, (m .base-records, (m .base-marks, (m .faces, (m .uses, (m .cuts, (a .none-hangs, tt)))))))))))

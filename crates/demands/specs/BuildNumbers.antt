@@ -5,7 +5,7 @@ use mathlib.Core.Logic.{_↔_}
 use mathlib.Core.List.{List, [], _∷_}
 use Prim.Native.Nat.{ℕ}
 use lib.IntN.{ℤ}
-use Rattle.laws.specs.Order.{Rule, rule, Giving, Judged, judge, done, given-exactly}
+use Rattle.laws.specs.Order.{Rule, rule, Giving, Judged, judge, done, given-exactly, accepted-exactly}
 use Rattle.check_meaning.specs.Tests.{reads}
 use Rattle.build_service.specs.Build.{buildRows, buildNumber}
 use Rattle.build_meaning.specs.Written.{Given}
@@ -47,16 +47,13 @@ module _ (job : ℕ) (coordinates : List ℤ) (corners : List ℕ) (room : ℕ) 
       judge (together-exactly job coordinates corners g h3 h5) λ h7. judge (used-exactly job coordinates corners g h3 h5) λ h8.
       judge (room-exactly job coordinates corners g h3 room) λ h20. done
 
-  build-gives : (n : ℕ) → (buildNumber job coordinates corners room ≡ n) ↔ Giving (buildRules coordinates corners room) n
-  unfolding buildNumber buildRows
-  build-gives = given-exactly build-judged refl
-
   pub build-exactly : BuildExactly job coordinates corners room
+  unfolding buildNumber buildRows
   build-exactly =
       record {
-        gives = build-gives;
-        gives-0 = reads (build-gives 0)
+        gives = given-exactly build-judged refl;
+        gives-0 = reads (accepted-exactly build-judged refl)
             (λ (whole, (counts, (places, (pieces, (together, (used, (roomy, end))))))).
             record { whole = whole; counts = counts; places = places; pieces = pieces; together = together; used = used; roomy = roomy })
-            (λ x. (x .whole, (x .counts, (x .places, (x .pieces, (x .together, (x .used, (x .roomy, refl))))))));
+            (λ x. (x .whole, (x .counts, (x .places, (x .pieces, (x .together, (x .used, (x .roomy, tt))))))));
       }

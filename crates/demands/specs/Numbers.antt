@@ -1,5 +1,5 @@
--- The numbers, each given exactly when, in the order in which they are tried: document 01, "Numbering we give back". What each asks is a plain statement: of a
--- stored mesh in `check_meaning/specs/Accepted`, of a selection in `Selections`, of build's lists in `PlainBase`.
+-- The numbers, each given exactly when, in the order in which they are tried: document 01, "Numbers we give back". What each asks is a plain statement: of a
+-- stored mesh in `check_meaning/specs/Accepted`, of a selection in `Selections`, of build's lists in `Words`.
 use mathlib.Core.Path.{_≡_}
 use mathlib.Core.Logic.{_↔_}
 use mathlib.Core.List.{List}
@@ -17,15 +17,15 @@ use Rattle.demands.specs.RefineNumbers as Refine
 use Rattle.demands.specs.RefineNumbers.{refineRules, RefineAccepts}
 use Rattle.demands.specs.GivenTypes.{given-by-types}
 
--- Check: every rule before it in the list holds, and its own does not; 0 where all hold.
+-- Check: a number exactly where every rule before it in the list holds and its own does not, and 0 exactly where all hold.
 pub check-refuses : (mesh : List ℕ) (n : ℕ) → (checkNumber mesh ≡ n) ↔ Giving (checkRules mesh) n
 check-refuses = Check.refuses-exactly
 
--- Build likewise.
+-- Build likewise: 21, 3, 4, 5, 7, 8, 20, and 0.
 pub build-gives : (job : ℕ) (coordinates : List ℤ) (corners : List ℕ) (room : ℕ) → ArgumentTypes job coordinates corners → BuildExactly job coordinates corners room
 build-gives job coordinates corners room types = Build.build-exactly job coordinates corners room (given-by-types job coordinates corners types)
 
--- Refine likewise.
+-- Refine likewise: check's rules, those of the selection and those of the result, and 0.
 pub refine-refuses : (mesh selection : List ℕ) (room n : ℕ) → (refineNumber mesh selection room ≡ n) ↔ Giving (refineRules mesh selection room) n
 refine-refuses = Refine.refine-refuses-exactly
 

@@ -10,7 +10,7 @@ use lib.Dec.{eqb, leb, ltb}
 use borrow.Author.Tests.{eqb-true, leb-true}
 use Rattle.demands.specs.Words.{fullSize, RightSelectionLength, RightSelectionMark}
 use Rattle.laws.specs.Below.{either, or-second}
-use Rattle.laws.specs.Order.{Rule, rule, Giving, Judged, judge, done, judged-then, given-exactly, given-passes, OneOf, one-of-them}
+use Rattle.laws.specs.Order.{Rule, rule, Giving, Judged, judge, done, judged-then, given-exactly, accepted-exactly, given-passes, OneOf, one-of-them}
 use Rattle.stored.specs.declared.Limits.{Limits}
 use Rattle.stored.specs.Layout.{limits, meshLength, headerOf, selectionOf}
 use Rattle.check_refusals.specs.Tables.{Tables, tablesOf, allVertices, allRecords}
@@ -87,10 +87,10 @@ module _ (m : Tables) (selection : List ℕ) where
   selection-exactly : (selectionNumber m selection ≡ 0) ↔ EarnsNone m selection
   unfolding selectionNumber selectionRows
   selection-exactly =
-      reads (given-exactly selection-judged refl 0)
+      reads (accepted-exactly selection-judged refl)
       (λ (h11, (h12, (h13, (h14, (h15, (h16, (h17, (h18, end)))))))).
       record { length = h11; mark = h12; job = h13; round = h14; numbers = h15; leaves = h16; not-last = h17; round-rises = h18 })
-      (λ g. (g .length, (g .mark, (g .job, (g .round, (g .numbers, (g .leaves, (g .not-last, (g .round-rises, refl)))))))))
+      (λ g. (g .length, (g .mark, (g .job, (g .round, (g .numbers, (g .leaves, (g .not-last, (g .round-rises, tt)))))))))
 
   selection-within : eqb (selectionNumber m selection) 0 ≡ false → (11 ≤ selectionNumber m selection) × (selectionNumber m selection ≤ 18)
   unfolding selectionNumber selectionRows
@@ -111,7 +111,9 @@ module _ (mesh selection : List ℕ) (room : ℕ) where
   pub refine-refuses-exactly : (n : ℕ) → (refineNumber mesh selection room ≡ n) ↔ Giving (refineRules mesh selection room) n
   unfolding refineNumber rows tableRows selectionRows resultRows
   refine-refuses-exactly =
-      given-exactly (judged-then (check-judged mesh) (judged-then (selection-judged (tablesOf mesh) selection) (result-judged (closed mesh selection) room))) refl
+      given-exactly
+      (judged-then (check-judged mesh) λ accepted. judged-then (selection-judged (tablesOf mesh) selection) λ good. result-judged (closed mesh selection) room)
+      refl
 
   later-exactly : (n : ℕ) → (laterNumber mesh selection room ≡ n) ↔ Giving (resultRules (closed mesh selection) room) n
   unfolding laterNumber storedNumber resultRows

@@ -1,6 +1,6 @@
 -- "The first rule broken, in the order of the numbers, names the refusal": rows in any order, with any numbers that differ, and what each of them asks.
 use mathlib.Core.Path.{_≡_, refl, sym, _∙_}
-use mathlib.Core.Bool.{Bool, true, false, not, cond, _&&_, true≢false}
+use mathlib.Core.Bool.{Bool, true, false, not, cond, _&&_}
 use mathlib.Core.Logic.{_↔_, _≢_, _⊎_, inl, inr, ⊎-elim}
 use mathlib.Core.List.{List, [], _∷_, _++_}
 use Prim.Native.Nat.{ℕ}
@@ -139,12 +139,17 @@ pub data Judged : List Row → List Rule → Type 1 where
   done : Judged [] []
   judge : {n : ℕ} {b : Bool} {A : Type 0} {rows : List Row} {rules : List Rule} → ((b ≡ false) ↔ A) → (A → Judged rows rules) → Judged (row n b ∷ rows) (rule n A ∷ rules)
 
--- Rules after rules.
-pub judged-then : {a b : List Row} {p q : List Rule} → Judged a p → Judged b q → Judged (a ++ b) (p ++ q)
-judged-then done k = k
-judged-then (judge h rest) k = judge h (λ x. judged-then (rest x) k)
+-- All that the rules ask.
+abbrev pub Holding : List Rule → Type 0
+Holding [] = Unit {0}
+Holding (r ∷ rest) = r .asks × Holding rest
 
--- A number is given exactly where every rule before it holds and its own does not, and 0 exactly where all hold.
+-- Rules after rules.
+pub judged-then : {a b : List Row} {p q : List Rule} → Judged a p → (Holding p → Judged b q) → Judged (a ++ b) (p ++ q)
+judged-then done later = later tt
+judged-then (judge h rest) later = judge h (λ x. judged-then (rest x) (λ held. later (x, held)))
+
+-- A number is given exactly where every rule before it holds and its own does not.
 pub given-exactly : {rows : List Row} {rules : List Rule} → Judged rows rules → differ rows ≡ true → (n : ℕ) → (firstBroken rows ≡ n) ↔ Giving rules n
 unfolding firstBroken
 given-exactly done d n = (sym, sym)
@@ -162,3 +167,15 @@ given-exactly (judge {n = k} {b = b} {A = A} {rows = rows} {rules = rules} h res
       λ g. rw (h .1 (g .0)) (given-exactly (rest (g .0)) (rest-differ (row k b) rows d) n .1 (g .1)),
     ))
     (either (eqb k n))
+
+-- 0 is given exactly where all hold.
+pub accepted-exactly : {rows : List Row} {rules : List Rule} → Judged rows rules → differ rows ≡ true → (firstBroken rows ≡ 0) ↔ Holding rules
+unfolding firstBroken
+accepted-exactly done d = (λ e. tt, λ held. refl)
+accepted-exactly (judge {n = k} {b = b} {rows = rows} h rest) d = (
+  λ e. ⊎-elim
+      (λ t. absurd (not-zero (row k b) rows d (rw t at e)))
+      (λ f. let x = h .0 f in (x, accepted-exactly (rest x) (rest-differ (row k b) rows d) .0 (rw f at e)))
+      (either b),
+  λ held. rw (h .1 (held .0)) (accepted-exactly (rest (held .0)) (rest-differ (row k b) rows d) .1 (held .1)),
+)
