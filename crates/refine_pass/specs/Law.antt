@@ -1,5 +1,5 @@
 -- The passes in two slices are the passes of their tables.
-use mathlib.Core.Path.{_≡_, refl, sym, ap, ap₂, _∙_, subst}
+use mathlib.Core.Path.{_≡_, refl, ap, _∙_, subst}
 use mathlib.Core.Bool.{Bool, true, false, not, cond, _&&_}
 use mathlib.Core.Logic.{_≢_}
 use Prim.Native.Nat.{ℕ, zero, suc, _+_, _*_, _≤_, _<_}
@@ -8,25 +8,24 @@ use native.Mathlib.Omega.{arith}
 use lib.ListN.{length}
 use lib.Dec.{eqb, ltb}
 use borrow.Author.Tests.{ltb-false, le-ltb}
-use Rattle.laws.specs.Below.{or-left-false, or-right-false, putAt, any-same, put-other}
+use Rattle.laws.specs.Below.{or-left-false, or-right-false, putAt, put-other}
 use Rattle.laws.specs.Lists.{Bytes}
 use Rattle.piece.specs.declared.Ends.{Ends}
-use Rattle.piece.specs.Ends.{endsOf}
 use Rattle.stored.specs.declared.Limits.{Limits}
 use Rattle.stored.specs.declared.Layout.{Layout}
 use Rattle.stored.specs.declared.Header.{Header}
-use Rattle.stored.specs.declared.Vertex.{Vertex}
 use Rattle.stored.specs.declared.Record.{Record}
-use Rattle.stored.specs.Layout.{storedNone, vertexWidth, recordWidth, limits, vertexIn, recordIn}
+use Rattle.stored.specs.Layout.{storedNone, vertexWidth, recordWidth, limits}
 use Rattle.stored.specs.Tables.{Holds, working-holds}
-use Rattle.check_refusals.specs.Tables.{Tables, allVertices, allRecords, pieceAt, uncut, hasParents, vertexWith, hangs, refinementEnds}
-use Rattle.check_refusals.specs.Refusals.{hangsAt, leafHangs, hangingEdge}
+use Rattle.check_refusals.specs.Tables.{Tables, allVertices, allRecords, pieceAt, vertexWith, refinementEnds}
+use Rattle.check_refusals.specs.Refusals.{leafHangs, hangingEdge}
 use Rattle.piece_cut.specs.Cut.{cutOf}
 use Rattle.refine_cut.specs.Cut.{oneVertexMore, midpointOf, withMidpoint, cutRecord, leafRecord, withChildren, cutAt}
 use Rattle.refine_cut.specs.Slices.{Slices, tablesIn, cutPut}
 use Rattle.refine_cut.specs.Law.{Ready, cut-tables, cut-holds-on, cut-bytes}
 use Rattle.refine_pass.specs.Passes.{exceeds, turn, passBelow, pass, closing, refined}
-use Rattle.refine_pass.specs.Puts.{turnPut, turnsPut, passPut, hangsSince, closingPut, refinedPut, work}
+use Rattle.refine_pass.specs.Puts.{turnPut, turnsPut, passPut, closingPut, refinedPut, work}
+use Rattle.refine_pass.specs.Steps.{turns-records}
 
 -- ---- what a cut leaves as it was
 
@@ -100,17 +99,6 @@ module _ (most : Limits) (chosen : ℕ → Bool) where
   unfolding passBelow
   turns-kept zero m = record { records = le-refl (allRecords m); vertices = le-refl (allVertices m); vertexAt = λ v l. refl; recordAt = λ k s l. refl }
   turns-kept (suc n) m = turn-kept n m (passBelow most chosen n m) (turns-kept n m)
-
--- A leaf hangs in both where the record and the old vertices are the same.
-hangs-same : (h : Header) (v v′ : ℕ → Vertex) (r r′ : ℕ → Record) (n : ℕ) → r n ≡ r′ n → ((k : ℕ) → k < h .vertices → v k ≡ v′ k) →
-    leafHangs (record { header = h; vertexAt = v; recordAt = r }) n ≡ leafHangs (record { header = h; vertexAt = v′; recordAt = r′ }) n
-unfolding leafHangs hangsAt hangs hasParents
-hangs-same h v v′ r r′ n e s =
-    any-same 6 (hangsAt (record { header = h; vertexAt = v; recordAt = r }) n) (hangsAt (record { header = h; vertexAt = v′; recordAt = r′ }) n)
-    (λ i l.
-    ap₂ _&&_ (ap uncut e)
-    (any-same (h .vertices) (hasParents (record { header = h; vertexAt = v; recordAt = r }) (endsOf (r n .piece) i)) (hasParents (record { header = h; vertexAt = v′; recordAt = r′ }) (endsOf (r′ n .piece) i))
-    (λ k b. (λ j. hasParents (record { header = h; vertexAt = λ x. s k b j; recordAt = r }) (endsOf (e j .piece) i) k))))
 
 -- ---- tables to work on
 
@@ -190,36 +178,18 @@ module _ (most : Limits) (l : Layout) where
       go true false h = record { same = cut-tables l s n (ready s n w h there); working = cut-working s n w h there }
       go false e h = record { same = refl; working = w }
 
-  -- Each turn chooses as it was chosen when the pass began.
-  abbrev Agrees : (Slices → ℕ → Bool) → (ℕ → Bool) → Slices → Type 0
-  Agrees choose chosen s = (n : ℕ) (t : Slices) → n < s .header .records → tablesIn l t ≡ passBelow most chosen n (tablesIn l s) → choose t n ≡ chosen n
-
-  turns-give : (choose : Slices → ℕ → Bool) (chosen : ℕ → Bool) (s : Slices) → Agrees choose chosen s → Working most l s →
-      (n : ℕ) → n ≤ s .header .records → Gives most l (turnsPut most l choose n s) (passBelow most chosen n (tablesIn l s))
+  turns-give : (chosen : ℕ → Bool) (s : Slices) → Working most l s → (n : ℕ) → n ≤ s .header .records → Gives most l (turnsPut most l chosen n s) (passBelow most chosen n (tablesIn l s))
   unfolding turnsPut passBelow
-  turns-give choose chosen s agrees w zero h = record { same = refl; working = w }
-  turns-give choose chosen s agrees w (suc n) h = one-more (turnsPut most l choose n s) (turns-give choose chosen s agrees w n (omega arith))
-    where
-      one-more : (t : Slices) → Gives most l t (passBelow most chosen n (tablesIn l s)) → Gives most l (turnPut most l (choose t n) n t) (turn most chosen n (passBelow most chosen n (tablesIn l s)))
-      one-more t g =
-          let counted : t .header .records ≡ allRecords (passBelow most chosen n (tablesIn l s)) = ap allRecords (g .same) in
-          let there : n < t .header .records = omega (arith, turns-kept most chosen n (tablesIn l s) .records) in
-          let turned = turn-gives chosen n t (g .working) there in
-          subst (λ (b : Bool). Gives most l (turnPut most l b n t) (turn most chosen n (passBelow most chosen n (tablesIn l s)))) (sym (agrees n t (omega arith) (g .same)))
-          (subst (λ (m : Tables). Gives most l (turnPut most l (chosen n) n t) (turn most chosen n m)) (g .same) turned)
+  turns-give chosen s w zero h = record { same = refl; working = w }
+  turns-give chosen s w (suc n) h =
+      let t : Slices = turnsPut most l chosen n s in
+      let g = turns-give chosen s w n (omega arith) in
+      subst (λ (m : Tables). Gives most l (turnPut most l (chosen n) n t) (turn most chosen n m)) (g .same) (turn-gives chosen n t (g .working) (omega (arith, turns-records most l chosen s n)))
 
   -- A pass.
-  pass-gives : (choose : Slices → ℕ → Bool) (chosen : ℕ → Bool) (s : Slices) → Agrees choose chosen s → Working most l s → Gives most l (passPut most l choose s) (pass most chosen (tablesIn l s))
+  pass-gives : (chosen : ℕ → Bool) (s : Slices) → Working most l s → Gives most l (passPut most l chosen s) (pass most chosen (tablesIn l s))
   unfolding passPut pass
-  pass-gives choose chosen s agrees w = turns-give choose chosen s agrees w (s .header .records) (le-refl (s .header .records))
-
-  -- What hangs, asked with the header that the tables had when the pass began, is what hung then.
-  hanging-agrees : (s : Slices) → Agrees (hangsSince l s) (leafHangs (tablesIn l s)) s
-  hanging-agrees s n t there same =
-      let kept = turns-kept most (leafHangs (tablesIn l s)) n (tablesIn l s) in
-      hangs-same (s .header) (vertexIn l (t .base) (t .grown)) (vertexIn l (s .base) (s .grown)) (recordIn l (t .base) (t .grown)) (recordIn l (s .base) (s .grown)) n
-      ((λ i. same i .recordAt n) ∙ kept .recordAt n (le-refl n) there)
-      (λ k b. (λ i. same i .vertexAt k) ∙ kept .vertexAt k b)
+  pass-gives chosen s w = turns-give chosen s w (s .header .records) (le-refl (s .header .records))
 
   pick : (b : Bool) (s t : Slices) (m : Tables) → Working most l s → Gives most l t m → Gives most l (cond b t s) (cond b m (tablesIn l s))
   pick true s t m w g = g
@@ -229,8 +199,8 @@ module _ (most : Limits) (l : Layout) where
   unfolding closingPut closing
   closing-gives zero s w = record { same = refl; working = w }
   closing-gives (suc passes) s w =
-      let g = pass-gives (hangsSince l s) (leafHangs (tablesIn l s)) s (hanging-agrees s) w in
-      let after : Slices = passPut most l (hangsSince l s) s in
+      let g = pass-gives (leafHangs (tablesIn l s)) s w in
+      let after : Slices = passPut most l (leafHangs (tablesIn l s)) s in
       pick (hangingEdge (tablesIn l s) && not (exceeds most (s .header))) s (closingPut most l passes after) (closing most passes (pass most (leafHangs (tablesIn l s)) (tablesIn l s))) w
       (subst (λ (m : Tables). Gives most l (closingPut most l passes after) (closing most passes m)) (g .same) (closing-gives passes after (g .working)))
 
@@ -238,11 +208,11 @@ module _ (most : Limits) (l : Layout) where
   pub refined-tables : (chosen : ℕ → Bool) (s : Slices) → Working most l s → tablesIn l (refinedPut most l chosen s) ≡ refined most chosen (tablesIn l s)
   unfolding refinedPut refined
   refined-tables chosen s w =
-      let g = pass-gives (λ t. chosen) chosen s (λ n t there same. refl) w in
-      closing-gives (most .records) (passPut most l (λ t. chosen) s) (g .working) .same ∙ ap (closing most (most .records)) (g .same)
+      let g = pass-gives chosen s w in
+      closing-gives (most .records) (passPut most l chosen s) (g .working) .same ∙ ap (closing most (most .records)) (g .same)
 
   pub refined-working : (chosen : ℕ → Bool) (s : Slices) → Working most l s → Working most l (refinedPut most l chosen s)
   unfolding refinedPut
   refined-working chosen s w =
-      let g = pass-gives (λ t. chosen) chosen s (λ n t there same. refl) w in
-      closing-gives (most .records) (passPut most l (λ t. chosen) s) (g .working) .working
+      let g = pass-gives chosen s w in
+      closing-gives (most .records) (passPut most l chosen s) (g .working) .working

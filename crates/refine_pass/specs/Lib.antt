@@ -4,6 +4,5 @@ pub mod Puts
 pub mod Steps
 pub mod Law
 pub mod Linked
-pub mod Still
-pub mod Named
+pub mod Chosen
 pub mod Stays

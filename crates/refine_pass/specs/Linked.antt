@@ -1,99 +1,27 @@
 -- The links of the vertices' parent pairs, kept along with the passes: a vertex that a cut appends is put into them, so that they stay those of all vertices.
 use mathlib.Core.Path.{_≡_, refl, sym, ap, _∙_, subst, subst₂}
-use mathlib.Core.Bool.{Bool, true, false, not, cond, _&&_}
+use mathlib.Core.Bool.{Bool, false}
 use mathlib.Core.Logic.{_⊎_, inl, inr, ⊎-elim}
 use mathlib.Core.List.{List}
-use Prim.Native.Nat.{ℕ, zero, suc, _+_, _*_, _≤_, _<_}
-use native.Mathlib.Nat.{le-refl}
+use Prim.Native.Nat.{ℕ, suc, _+_, _*_, _≤_, _<_}
 use native.Mathlib.Omega.{arith}
 use lib.ListN.{length, getD, length-replicate}
-use lib.Dec.{eqb}
 use Rattle.laws.specs.Below.{first-at-most}
 use Rattle.laws.specs.Lists.{Bytes}
 use Rattle.laws.specs.Links.{greatest, Chain, linksOf, pushed, chain-pushed, firstAlong}
 use Rattle.piece.specs.declared.Ends.{Ends}
 use Rattle.stored.specs.declared.Limits.{Limits}
 use Rattle.stored.specs.declared.Layout.{Layout}
-use Rattle.stored.specs.declared.Header.{Header}
-use Rattle.stored.specs.Layout.{vertexWidth, recordWidth, limits, working, vertexIn, recordIn}
-use Rattle.check_refusals.specs.Tables.{Tables, tables, allVertices, hasParents, vertexWith, refinementEnds}
-use Rattle.check_refusals.specs.Refusals.{leafHangs}
+use Rattle.stored.specs.Layout.{vertexWidth, recordWidth, limits, working, recordIn}
+use Rattle.check_refusals.specs.Tables.{Tables, allVertices, hasParents, vertexWith, refinementEnds}
 use Rattle.check_parents.specs.Pairs.{pairKey, keyOf, pairLinks, pairs-nexts-long, pairs-same, Linked, empty, all-linked, vertex-with-is}
-use Rattle.check_hanging.specs.Hanging.{leafHangsAlong, leaf-hangs-along}
-use Rattle.refine_cut.specs.Cut.{midpointOf, oneVertexMore, twoRecordsMore, cutAt}
-use Rattle.refine_cut.specs.Slices.{Slices, tablesIn, vertexPut, headed, midpointPut, childrenPut, hasRoom, cutWith, cutPut}
+use Rattle.refine_cut.specs.Cut.{cutAt}
+use Rattle.refine_cut.specs.Slices.{Slices, tablesIn, cutWith, cutPut}
 use Rattle.refine_cut.specs.Law.{cut-tables}
 use Rattle.refine_pass.specs.Passes.{exceeds}
-use Rattle.refine_pass.specs.Puts.{turnPut, turnsPut, refinedPut, work, refinedWithin}
-use Rattle.refine_pass.specs.Steps.{refined-within}
+use Rattle.refine_pass.specs.Puts.{refinedPut, work, refinedWithin}
+use Rattle.refine_pass.specs.Steps.{cut-header, refined-within}
 use Rattle.refine_pass.specs.Law.{Working, within, can-begin, ready, cut-working, cut-vertices-stay}
-
--- ---- the header, as records are cut
-
--- The base vertices stay, and no vertex and no record is lost.
-pub record Since (h with : Header) : Type 0 where
-  pub base : with .«base_vertices» ≡ h .«base_vertices»
-  pub vertices : h .vertices ≤ with .vertices
-  pub records : h .records ≤ with .records
-
-since-itself : (h : Header) → Since h h
-since-itself h = record { base = refl; vertices = le-refl (h .vertices); records = le-refl (h .records) }
-
-since-then : (h g f : Header) → Since h g → Since g f → Since h f
-since-then h g f a b = record { base = b .base ∙ a .base; vertices = omega (arith, a .vertices, b .vertices); records = omega (arith, a .records, b .records) }
-
-module _ (l : Layout) (s : Slices) (n : ℕ) where
-  -- A vertex is appended or none.
-  midpoint-header : (P : Header → Type 0) (ends : Ends) (w : ℕ) → P (s .header) → P (oneVertexMore (s .header)) → P (midpointPut l s ends w .header)
-  unfolding midpointPut
-  midpoint-header P ends w there more = go (eqb w (s .header .vertices)) (vertexPut l s (s .header .vertices) (midpointOf (vertexIn l (s .base) (s .grown)) ends))
-    where
-      go : (fresh : Bool) (t : Slices) → P (cond fresh (headed (oneVertexMore (s .header)) t) s .header)
-      go true t = more
-      go false t = there
-
-  -- There is no room, or two records are appended with it.
-  cut-header : (P : Header → Type 0) → P (s .header) → P (twoRecordsMore (s .header)) → P (twoRecordsMore (oneVertexMore (s .header))) → P (cutPut l s n .header)
-  unfolding cutPut cutWith childrenPut
-  cut-header P none two more =
-      let r = recordIn l (s .base) (s .grown) n in
-      let w = vertexWith (tablesIn l s) (refinementEnds (r .piece)) in
-      go (hasRoom l (s .header)) (childrenPut l (midpointPut l s (refinementEnds (r .piece)) w) n r w) (midpoint-header (λ h. P (twoRecordsMore h)) (refinementEnds (r .piece)) w two more)
-    where
-      go : (room : Bool) (t : Slices) → P (t .header) → P (cond room t s .header)
-      go true t p = p
-      go false t p = none
-
-  cut-since : Since (s .header) (cutPut l s n .header)
-  cut-since =
-      cut-header (Since (s .header)) (since-itself (s .header))
-      (record { base = refl; vertices = le-refl (s .header .vertices); records = omega arith }) (record { base = refl; vertices = omega arith; records = omega arith })
-
-  -- A cut appends a vertex or none.
-  cut-one-more : (cutPut l s n .header .vertices ≡ s .header .vertices) ⊎ (cutPut l s n .header .vertices ≡ suc (s .header .vertices))
-  cut-one-more = cut-header (λ h. (h .vertices ≡ s .header .vertices) ⊎ (h .vertices ≡ suc (s .header .vertices))) (inl refl) (inl refl) (inr (omega arith))
-
-module _ (most : Limits) (l : Layout) where
-  pub turn-since : (chosen : Bool) (n : ℕ) (s : Slices) → Since (s .header) (turnPut most l chosen n s .header)
-  unfolding turnPut
-  turn-since chosen n s = go (chosen && not (exceeds most (s .header)))
-    where
-      go : (b : Bool) → Since (s .header) (cond b (cutPut l s n) s .header)
-      go true = cut-since l s n
-      go false = since-itself (s .header)
-
-  -- The header that a pass began with, and the one after n of its turns.
-  pub turns-since : (choose : Slices → ℕ → Bool) (start : Slices) (n : ℕ) → Since (start .header) (turnsPut most l choose n start .header)
-  unfolding turnsPut
-  turns-since choose start zero = since-itself (start .header)
-  turns-since choose start (suc n) =
-      let t : Slices = turnsPut most l choose n start in
-      since-then (start .header) (t .header) (turnPut most l (choose t n) n t .header) (turns-since choose start n) (turn-since (choose t n) n t)
-
-  pub since : (choose : Slices → ℕ → Bool) (start : Slices) (n : ℕ) (t : Slices) → t ≡ turnsPut most l choose n start → Since (start .header) (t .header)
-  since choose start n t is = subst (λ (x : Slices). Since (start .header) (x .header)) (sym is) (turns-since choose start n)
-
--- ---- the links
 
 -- How many vertices they have room for: one more than there may be.
 abbrev linkRoom : ℕ
@@ -138,24 +66,21 @@ module _ (l : Layout) (s : Slices) (heads nexts : List ℕ) (k : Linked (tablesI
   unfolding cutPut
   cut-found n ends these w is t cut = cut ∙ ap (cutWith l s n) (found-is ends w is ∙ ap (vertexWith (tablesIn l s)) these)
 
-  -- What hangs is found along the links, with the header that the tables had when a pass began.
-  pub hangs-since : (h : Header) → Since h (s .header) → (n : ℕ) (r : Bool) → r ≡ leafHangsAlong (tables h l (s .base) (s .grown)) heads nexts n → r ≡ leafHangs (tables h l (s .base) (s .grown)) n
-  hangs-since h kept n r is =
-      let m : Tables = tables h l (s .base) (s .grown) in
-      is
-      ∙ leaf-hangs-along m (s .header .vertices) heads nexts (pairs-same (tablesIn l s) m (s .header .vertices) heads nexts (kept .base) (λ u b. refl) (k .chain)) (k .long) (kept .vertices) n
-
 module _ (most : Limits) (l : Layout) (s : Slices) (heads nexts : List ℕ) (k : AtWork most l s heads nexts) (few : exceeds most (s .header) ≡ false) (n : ℕ) (there : n < s .header .records)
     (t : Slices) (is : t ≡ cutPut l s n) where
-  -- After a cut the links are those of the vertices that were there before it.
+  -- A cut appends a vertex or none.
+  one-more : (cutPut l s n .header .vertices ≡ s .header .vertices) ⊎ (cutPut l s n .header .vertices ≡ suc (s .header .vertices))
+  one-more = cut-header l s n (λ h. (h .vertices ≡ s .header .vertices) ⊎ (h .vertices ≡ suc (s .header .vertices))) (inl refl) (inl refl) (inr (omega arith))
+
+  -- After it the links are those of the vertices that were there before it.
   pub cut-linking : Linking (tablesIn l t) (s .header .vertices) heads nexts
   cut-linking =
       let (v, r) = within most (s .header) few in
       let same : tablesIn l t ≡ cutAt (tablesIn l s) n = ap (tablesIn l) is ∙ cut-tables l s n (ready most l s n (k .working) few there) in
       record {
-        chain = pairs-same (tablesIn l s) (tablesIn l t) (s .header .vertices) heads nexts (sym ((λ i. is i .header .«base_vertices») ∙ cut-since l s n .base))
+        chain = pairs-same (tablesIn l s) (tablesIn l t) (s .header .vertices) heads nexts (sym ((λ i. is i .header .«base_vertices») ∙ cut-header l s n (λ h. h .«base_vertices» ≡ s .header .«base_vertices») refl refl refl))
             (λ u b. sym ((λ i. same i .vertexAt u) ∙ cut-vertices-stay (tablesIn l s) n u b)) (k .linked .chain);
-        one-more = subst (λ (x : Slices). (x .header .vertices ≡ s .header .vertices) ⊎ (x .header .vertices ≡ suc (s .header .vertices))) (sym is) (cut-one-more l s n);
+        one-more = subst (λ (x : Slices). (x .header .vertices ≡ s .header .vertices) ⊎ (x .header .vertices ≡ suc (s .header .vertices))) (sym is) one-more;
         room = omega (arith, k .room);
         small = omega (arith, k .working .few-vertices);
       }
@@ -177,9 +102,9 @@ module _ (most : Limits) (l : Layout) (few : most ≡ limits) (laid : l ≡ work
   to-work : l ≡ work
   to-work = laid ∙ (λ i. working (few i .vertices + 1) (few i .records + 2))
 
-  -- The records all have a place in a table of the possible ones.
-  pub records-few : s .header .records ≤ limits .records
-  records-few = let (v, r) = within most (s .header) small in omega (arith, ap (λ (x : Limits). x .records) few)
+  -- The records all have a place in a table of the possible ones, also those to come.
+  pub records-few : (s .header .records ≤ limits .records) × (most .records ≤ limits .records)
+  records-few = let (v, r) = within most (s .header) small in let same = ap (λ (x : Limits). x .records) few in (omega arith, omega arith)
 
   -- Empty links, filled with all vertices.
   pub passes-begin : Bytes (s .base) × Bytes (s .grown) → (heads nexts : List ℕ) → heads ≡ pairLinks (tablesIn l s) (empty linkRoom) (s .header .vertices) .heads → nexts ≡ pairLinks (tablesIn l s) (empty linkRoom) (s .header .vertices) .nexts →

@@ -6,7 +6,6 @@ use lib.Dec.{leb}
 use Rattle.stored.specs.declared.Limits.{Limits}
 use Rattle.stored.specs.declared.Layout.{Layout}
 use Rattle.stored.specs.Layout.{vertexWidth, recordWidth, limits, working}
-use Rattle.check_refusals.specs.Tables.{tables}
 use Rattle.check_refusals.specs.Refusals.{leafHangs, hangingEdge}
 use Rattle.refine_cut.specs.Slices.{Slices, tablesIn, cutPut}
 use Rattle.refine_pass.specs.Passes.{exceeds}
@@ -15,28 +14,25 @@ use Rattle.refine_pass.specs.Passes.{exceeds}
 unfoldable pub turnPut : Limits → Layout → Bool → ℕ → Slices → Slices
 turnPut most l chosen n s = let cut = cutPut l s n in cond (chosen && not (exceeds most (s .header))) cut s
 
--- The first n turns of a pass, each of which asks of the slices as they are then whether its record is chosen.
-unfoldable pub turnsPut : Limits → Layout → (Slices → ℕ → Bool) → ℕ → Slices → Slices
-turnsPut most l choose zero s = s
-turnsPut most l choose (suc n) s = let t = turnsPut most l choose n s in turnPut most l (choose t n) n t
+-- The first n turns of a pass.
+unfoldable pub turnsPut : Limits → Layout → (ℕ → Bool) → ℕ → Slices → Slices
+turnsPut most l chosen zero s = s
+turnsPut most l chosen (suc n) s = turnPut most l (chosen n) n (turnsPut most l chosen n s)
 
 -- A pass over the records that are there when it begins.
-unfoldable pub passPut : Limits → Layout → (Slices → ℕ → Bool) → Slices → Slices
-passPut most l choose s = turnsPut most l choose (s .header .records) s
+unfoldable pub passPut : Limits → Layout → (ℕ → Bool) → Slices → Slices
+passPut most l chosen s = turnsPut most l chosen (s .header .records) s
 
--- A leaf that hangs when the pass begins hangs on a vertex that was there then: the slices are asked with the header that they had.
-abbrev pub hangsSince : Layout → Slices → Slices → ℕ → Bool
-hangsSince l s t n = leafHangs (tables (s .header) l (t .base) (t .grown)) n
-
+-- The later passes, each of the leaves that hang when it begins.
 unfoldable pub closingPut : Limits → Layout → ℕ → Slices → Slices
 closingPut most l zero s = s
 closingPut most l (suc passes) s =
-    let next = closingPut most l passes (passPut most l (hangsSince l s) s) in
+    let next = closingPut most l passes (passPut most l (leafHangs (tablesIn l s)) s) in
     cond (hangingEdge (tablesIn l s) && not (exceeds most (s .header))) next s
 
 -- Pass one, of the records that are chosen, and those after it.
 unfoldable pub refinedPut : Limits → Layout → (ℕ → Bool) → Slices → Slices
-refinedPut most l chosen s = closingPut most l (most .records) (passPut most l (λ t. chosen) s)
+refinedPut most l chosen s = closingPut most l (most .records) (passPut most l chosen s)
 
 -- ---- for every input
 

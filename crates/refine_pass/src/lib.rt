@@ -8,15 +8,18 @@ use stored::Limits;
 ghost use mathlib.Core.Path.{_≡_};
 ghost use mathlib.Core.Bool.{true};
 ghost use Prim.Native.Nat.{_≤_, _<_};
+ghost use lib.ListN.{length};
 ghost use Rattle.laws.specs.Links.{Chain, countedAt};
 ghost use Rattle.laws.specs.Counts.{countsBelow, marked};
 ghost use Rattle.stored.specs.Layout.{limits, namedIn};
 ghost use Rattle.check_refusals.specs.Tables.{tables};
+ghost use Rattle.check_refusals.specs.Refusals.{leafHangs};
 ghost use Rattle.check_parents.specs.Pairs.{keyOf, Linked};
 ghost use Rattle.refine_selection.specs.Selected.{isNamed};
 ghost use Rattle.refine_cut.specs.Slices.{slices, cutPut};
 ghost use Rattle.refine_pass.specs.Passes.{exceeds};
-ghost use Rattle.refine_pass.specs.Puts.{turnPut, passPut, hangsSince, closingPut, refinedPut, refinedWithin};
+ghost use Rattle.refine_pass.specs.Puts.{turnPut, passPut, closingPut, refinedPut, refinedWithin};
+ghost use Rattle.refine_pass.specs.Chosen.{Chosen};
 ghost use Rattle.refine_pass.specs.Linked.{Linking, AtWork};
 
 // Whether there are more vertices or more records than there may be.
@@ -90,18 +93,44 @@ fn turn(
 }
 
 // One more in the table at each number that the selection names.
-fn name_all(named: &mut [u16], selection: &[u8], count: usize)
-    ensures { λ _. ⌜ now (named .exit) ≡ countsBelow (λ t i. countedAt t (namedIn (now (selection .entry)) i)) (now (named .entry)) count ⌝ }
+fn choose_named(chosen: &mut [u16], selection: &[u8], count: usize)
+    ensures { λ _. ⌜ now (chosen .exit) ≡ countsBelow (λ t i. countedAt t (namedIn (now (selection .entry)) i)) (now (chosen .entry)) count ⌝ }
 {
     let mut i: usize = 0;
     while i < count {
-        chains::count(named, stored_selections::named_in(selection, i) as usize);
+        chains::count(chosen, stored_selections::named_in(selection, i) as usize);
         i += 1;
     }
 }
 
-// Pass one: of the records that the table has.
-fn pass_selected(
+// Every leaf that has a hanging edge is chosen in the table, and no other record; whether there is one.
+fn choose_hanging<'a>(
+    h: Header,
+    l: Layout,
+    base: &'a [u8],
+    grown: &'a [u8],
+    heads: &'a [u16],
+    nexts: &'a [u16],
+    chosen: &mut [u16],
+) -> bool
+    requires { ⌜ Linked (tables h l (now base) (now grown)) (now heads) (now nexts) ⌝ }
+    requires { ⌜ h .records ≤ length (now chosen) ⌝ }
+    ensures { λ r. ⌜ Chosen (leafHangs (tables h l (now (base .entry)) (now (grown .entry)))) (h .records) (now (chosen .exit)) r ⌝ }
+{
+    let records = h.records as usize;
+    let mut some = false;
+    let mut n: usize = 0;
+    while n < records {
+        let hangs = check_hanging::leaf_hangs(h, l, base, grown, heads, nexts, n);
+        chosen[n] = hangs as u16;
+        some = some | hangs;
+        n += 1;
+    }
+    some
+}
+
+// One pass: of the records that are there when it begins, in rising number, those that the table has chosen.
+fn pass(
     most: Limits,
     h: Header,
     l: Layout,
@@ -109,17 +138,17 @@ fn pass_selected(
     grown: &mut [u8],
     heads: &mut [u16],
     nexts: &mut [u16],
-    named: &[u16],
+    chosen: &[u16],
 ) -> Header
     requires { ⌜ AtWork most l (slices h (now base) (now grown)) (now heads) (now nexts) ⌝ }
-    ensures { λ r. ⌜ slices r (now (base .exit)) (now (grown .exit)) ≡ passPut most l (λ t. marked (now (named .entry))) (slices h (now (base .entry)) (now (grown .entry))) ⌝ }
+    ensures { λ r. ⌜ slices r (now (base .exit)) (now (grown .exit)) ≡ passPut most l (marked (now (chosen .entry))) (slices h (now (base .entry)) (now (grown .entry))) ⌝ }
     ensures { λ r. ⌜ AtWork most l (slices r (now (base .exit)) (now (grown .exit))) (now (heads .exit)) (now (nexts .exit)) ⌝ }
 {
     let records = h.records as usize;
     let mut with = h;
     let mut n: usize = 0;
     while n < records {
-        if chains::at(named, n) == 0 {
+        if chains::at(chosen, n) == 0 {
             n += 1;
             continue;
         }
@@ -129,35 +158,7 @@ fn pass_selected(
     with
 }
 
-// A later pass: what hangs is asked with the header that the tables had when it began.
-fn pass_hanging(
-    most: Limits,
-    h: Header,
-    l: Layout,
-    base: &mut [u8],
-    grown: &mut [u8],
-    heads: &mut [u16],
-    nexts: &mut [u16],
-) -> Header
-    requires { ⌜ AtWork most l (slices h (now base) (now grown)) (now heads) (now nexts) ⌝ }
-    ensures { λ r. ⌜ slices r (now (base .exit)) (now (grown .exit)) ≡ passPut most l (hangsSince l (slices h (now (base .entry)) (now (grown .entry)))) (slices h (now (base .entry)) (now (grown .entry))) ⌝ }
-    ensures { λ r. ⌜ AtWork most l (slices r (now (base .exit)) (now (grown .exit))) (now (heads .exit)) (now (nexts .exit)) ⌝ }
-{
-    let records = h.records as usize;
-    let mut with = h;
-    let mut n: usize = 0;
-    while n < records {
-        if !check_hanging::leaf_hangs(h, l, base, grown, heads, nexts, n) {
-            n += 1;
-            continue;
-        }
-        with = turn(most, with, l, base, grown, heads, nexts, n);
-        n += 1;
-    }
-    with
-}
-
-// The later passes, until one appends no record: then none hangs or the tables exceed their limits.
+// The later passes, until none hangs or the tables exceed their limits.
 fn close(
     most: Limits,
     h: Header,
@@ -166,24 +167,28 @@ fn close(
     grown: &mut [u8],
     heads: &mut [u16],
     nexts: &mut [u16],
+    chosen: &mut [u16],
 ) -> Header
     requires { ⌜ AtWork most l (slices h (now base) (now grown)) (now heads) (now nexts) ⌝ }
+    requires { ⌜ most .records ≤ length (now chosen) ⌝ }
     ensures { λ r. ⌜ slices r (now (base .exit)) (now (grown .exit)) ≡ closingPut most l (most .records) (slices h (now (base .entry)) (now (grown .entry))) ⌝ }
 {
     let mut with = h;
     let mut left = most.records;
     while 0 < left {
-        let records = with.records;
-        with = pass_hanging(most, with, l, base, grown, heads, nexts);
-        if with.records == records {
+        if is_beyond(most, with) {
             return with;
         }
+        if !choose_hanging(with, l, base, grown, heads, nexts, chosen) {
+            return with;
+        }
+        with = pass(most, with, l, base, grown, heads, nexts, chosen);
         left -= 1;
     }
     with
 }
 
-// Pass one, and those after it. The selected records are entered in a table first, which has a place for each possible record.
+// Pass one, and those after it, by one table, which has a place for each possible record.
 fn passes(
     most: Limits,
     h: Header,
@@ -197,12 +202,13 @@ fn passes(
 ) -> Header
     requires { ⌜ AtWork most l (slices h (now base) (now grown)) (now heads) (now nexts) ⌝ }
     requires { ⌜ h .records ≤ limits .records ⌝ }
+    requires { ⌜ most .records ≤ limits .records ⌝ }
     ensures { λ r. ⌜ slices r (now (base .exit)) (now (grown .exit)) ≡ refinedPut most l (isNamed count (namedIn (now (selection .entry)))) (slices h (now (base .entry)) (now (grown .entry))) ⌝ }
 {
-    let mut named = [0u16; stored::RECORDS];
-    name_all(&mut named, selection, count);
-    let with = pass_selected(most, h, l, base, grown, heads, nexts, &named);
-    close(most, with, l, base, grown, heads, nexts)
+    let mut chosen = [0u16; stored::RECORDS];
+    choose_named(&mut chosen, selection, count);
+    let with = pass(most, h, l, base, grown, heads, nexts, &chosen);
+    close(most, with, l, base, grown, heads, nexts, &mut chosen)
 }
 
 // All passes on tables to work on; where the slices don't have them, or there are more vertices or records than there may be, nothing is cut.

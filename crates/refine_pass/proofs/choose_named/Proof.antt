@@ -1,4 +1,4 @@
--- `refine_pass::name_all` has counted the numbers before i.
+-- `refine_pass::choose_named` has counted the numbers before i.
 -- Assumes nothing.
 use borrow.Author.Needs.{needs}
 use Prim.Native.Nat.{_≤_, _-_}
@@ -9,14 +9,14 @@ use denote.Ref.{now}
 use Rattle.laws.specs.Links.{countedAt}
 use Rattle.laws.specs.Counts.{countsBelow, counts-none, counts-next, counts-end, counts-long, key-marking}
 use Rattle.stored.specs.Layout.{namedIn}
-use Rattle.refine_pass.proofs.name_all.Statement.{statement}
-use Rattle.refine_pass.proofs.name_all.Tie as tie
+use Rattle.refine_pass.proofs.choose_named.Statement.{statement}
+use Rattle.refine_pass.proofs.choose_named.Tie as tie
 
 abbrev Inv-loop : tie.InvT-loop
-Inv-loop named₀ selection count i₀ named i = (i ≤ count) × (named ≡ countsBelow (λ t i. countedAt t (namedIn selection i)) named₀ i)
+Inv-loop chosen₀ selection count i₀ chosen i = (i ≤ count) × (chosen ≡ countsBelow (λ t i. countedAt t (namedIn selection i)) chosen₀ i)
 
 abbrev μ-loop : tie.MeasureT-loop
-μ-loop named₀ selection count i₀ named i = count - i
+μ-loop chosen₀ selection count i₀ chosen i = count - i
 
 loop-holds : tie.Need-loop-holds Inv-loop μ-loop
 loop-holds c = (omega arith, sym (counts-none _ _))
@@ -25,7 +25,7 @@ loop-again : tie.Need-loop-again Inv-loop μ-loop
 loop-again c =
     let a = c .before .before .before .before .before .before .before .before .before .args in
     let was = c .before .before .before .before .before .before .loop in
-    (omega arith, counts-next (λ t i. countedAt t (namedIn (now (a .selection)) i)) (now (a .named)) (was .i) (was .named) (c .before .before .count .last .0) (was .inv .1) (c .before .before .count .ensures ∙ ap (countedAt (was .named)) (c .before .before .before .named-in .ensures)))
+    (omega arith, counts-next (λ t i. countedAt t (namedIn (now (a .selection)) i)) (now (a .chosen)) (was .i) (was .chosen) (c .before .before .count .last .0) (was .inv .1) (c .before .before .count .ensures ∙ ap (countedAt (was .chosen)) (c .before .before .before .named-in .ensures)))
 
 same-length : tie.Need-same-length Inv-loop μ-loop
 same-length c = ap length (c .before .loop .inv .1) ∙ counts-long _ (key-marking _ .long) _ _
@@ -33,5 +33,5 @@ same-length c = ap length (c .before .loop .inv .1) ∙ counts-long _ (key-marki
 returns : tie.Need-returns Inv-loop μ-loop
 returns c = counts-end _ _ _ _ _ (c .loop-test .left) (c .before .loop .inv .0) (c .before .loop .inv .1)
 
-pub name-all-spec : {M : Type 1} → statement M
-name-all-spec = tie.close (tie.spec Inv-loop μ-loop loop-holds (λ c κs. search needs) (λ c. search needs) (λ c κs. search needs) (λ c. search needs) (λ c. search needs) loop-again same-length returns)
+pub choose-named-spec : {M : Type 1} → statement M
+choose-named-spec = tie.close (tie.spec Inv-loop μ-loop loop-holds (λ c κs. search needs) (λ c. search needs) (λ c κs. search needs) (λ c. search needs) (λ c. search needs) loop-again same-length returns)
