@@ -39,9 +39,9 @@ use Rattle.list_service.specs.declared.Listed.{Listed}
 use Rattle.list_service.specs.Listing.{linesOf, meshLines, listingOf, listedNumber, ListOutcomeIs, largestListing}
 use Rattle.list_service.specs.Answer.{list-whole, list-short}
 use Rattle.list_meaning.specs.Longest.{no-line-longer, listing-at-most}
-use Rattle.demands.specs.Words.{StoredMesh, ArgumentTypes}
-use Rattle.demands.specs.GivenTypes.{given-by-types}
-use Rattle.demands.specs.Outcomes.{zero-or-not, check-number, refused-figures, no-hanging-edge, accepted-length, build-number, built-vertices, built-records, built-as-long, built-few, built-within, built-bytes, built-header, built-checked, refine-refused, refine-length, refined-vertices, refined-records, refined-as-long, refined-few, refined-within, refined-header, too-long-line, refused-line, accepted-lines, line-ends}
+use Rattle.demands_words.specs.Words.{StoredMesh, ArgumentTypes}
+use Rattle.demands_proofs.specs.GivenTypes.{given-by-types}
+use Rattle.demands_proofs.specs.Outcomes.{zero-or-not, check-number, refused-figures, no-hanging-edge, accepted-length, build-number, built-vertices, built-records, built-as-long, built-few, built-within, built-bytes, built-header, built-checked, refine-refused, refine-length, refined-vertices, refined-records, refined-as-long, refined-few, refined-within, refined-header, too-long-line, refused-line, accepted-lines, line-ends}
 use Rattle.demands.specs.Demand3.{RefinedFrom, any-room}
 
 -- ---- the words

@@ -23,18 +23,18 @@ use Rattle.piece.specs.Shape.{lastGeneration}
 use Rattle.grid.specs.Places.{pointOf}
 use Rattle.grid.specs.Corners.{Midpoint}
 use Rattle.cuts_names.specs.Pieces.{Node, generation, pieceAt, makes}
-use Rattle.demands.specs.Words.{BaseMesh, named, pointAt, ProperlyMarked, StoredMesh, SameBase, SameNumbering, placeOf, Figures, plainBase, ArgumentTypes, BuildAccepts, BuiltMesh, GoodFor}
-use Rattle.demands.specs.Services.{Services, ours}
-use Rattle.demands.specs.StoredOf.{stored-of-accepted}
-use Rattle.demands.specs.AcceptedOf.{accepted-of-stored}
-use Rattle.demands.specs.StoredBytes.{stored-bytes}
-use Rattle.demands.specs.StoredFigures.{stored-figures, stored-one-base, stored-one-set}
-use Rattle.demands.specs.OneNumbering.{stored-one-job, stored-one-round, stored-one-numbering}
-use Rattle.demands.specs.Exact.{exact-halfway}
-use Rattle.demands.specs.GivenTypes.{given-by-types, stands-as-listed}
-use Rattle.demands.specs.BuildNumbers.{build-exactly}
-use Rattle.demands.specs.BuildStores.{built}
-use Rattle.demands.specs.ClosedProof.{good-accepted}
+use Rattle.demands_words.specs.Words.{BaseMesh, named, pointAt, ProperlyMarked, StoredMesh, SameBase, SameNumbering, placeOf, Figures, plainBase, ArgumentTypes, BuildAccepts, BuiltMesh, GoodFor}
+use Rattle.demands_words.specs.Services.{Services, ours}
+use Rattle.demands_proofs.specs.StoredOf.{stored-of-accepted}
+use Rattle.demands_proofs.specs.AcceptedOf.{accepted-of-stored}
+use Rattle.demands_proofs.specs.StoredBytes.{stored-bytes}
+use Rattle.demands_proofs.specs.StoredFigures.{stored-figures, stored-one-base, stored-one-set}
+use Rattle.demands_proofs.specs.OneNumbering.{stored-one-job, stored-one-round, stored-one-numbering}
+use Rattle.demands_proofs.specs.Exact.{exact-halfway}
+use Rattle.demands_proofs.specs.GivenTypes.{given-by-types, stands-as-listed}
+use Rattle.demands_proofs.specs.BuildNumbers.{build-exactly}
+use Rattle.demands_proofs.specs.BuildStores.{built}
+use Rattle.demands_proofs.specs.ClosedProof.{good-accepted}
 
 -- The mesh that the closing of a stored mesh and a selection gives, as bytes.
 abbrev pub closedBytes : List ℕ → List ℕ → List ℕ

@@ -15,11 +15,11 @@ use Rattle.cuts_names.specs.Base.{SameFace, markedAt}
 use Rattle.cuts_names.specs.Pieces.{Node, generation, pieceAt}
 use Rattle.cuts.specs.Sets.{Cuts, Leaf, CutsWithin}
 use Rattle.cuts.specs.Count.{LeafList}
-use Rattle.demands.specs.Words.{BaseMesh, named, Fits, fullSize, Stores, RightSet, StoredMesh, sixfoldAt, sumOf, RightSelectionLength, RightSelectionMark, SelectedPiece, Closes, GoodFor}
-use Rattle.demands.specs.Services.{Services, ours}
-use Rattle.demands.specs.Inside.{set, set-inside, set-one-mark, set-no-deeper, set-none-fewer}
-use Rattle.demands.specs.Result.{result-stores, result-right}
-use Rattle.demands.specs.ClosedProof as Proof
+use Rattle.demands_words.specs.Words.{BaseMesh, named, Fits, fullSize, Stores, RightSet, StoredMesh, sixfoldAt, sumOf, RightSelectionLength, RightSelectionMark, SelectedPiece, Closes, GoodFor}
+use Rattle.demands_words.specs.Services.{Services, ours}
+use Rattle.demands_proofs.specs.Inside.{set, set-inside, set-one-mark, set-no-deeper, set-none-fewer}
+use Rattle.demands_proofs.specs.Result.{result-stores, result-right}
+use Rattle.demands_proofs.specs.ClosedProof as Proof
 use Rattle.demands.specs.Demand2.{demand-2}
 
 -- ---- what is handed back

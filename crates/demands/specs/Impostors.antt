@@ -15,11 +15,11 @@ use Rattle.refine_meaning.specs.Rows.{K}
 use Rattle.cuts_names.specs.Lists.{both-ways}
 use Rattle.cuts_names.specs.Pieces.{Node}
 use Rattle.cuts.specs.Sets.{Leaf}
-use Rattle.demands.specs.Words.{fullSize, StoredMesh, ArgumentTypes, countIn, SelectedPiece, Closes, GoodFor}
-use Rattle.demands.specs.Services.{Services, ours}
+use Rattle.demands_words.specs.Words.{fullSize, StoredMesh, ArgumentTypes, countIn, SelectedPiece, Closes, GoodFor}
+use Rattle.demands_words.specs.Services.{Services, ours}
 use Rattle.demands.specs.Demand2.{MeetsDemand2, demand-2}
 use Rattle.demands.specs.Demand3.{RefinedFrom, MeetsDemand3, demand-3, any-room, accepted-good, result}
-use Rattle.demands.specs.WorkedMeshes.{K-types, K-accepts, K-job-7, K-job-8, K-next, none-named, first-named, K-raised, K-raised-again, K-next-cut, K-copied-round, K-raised-round, K-raised-again-round, none-counted, first-counted, K-stored, K-next-stored, K-first-round, K-later-round}
+use Rattle.demands_proofs.specs.WorkedMeshes.{K-types, K-accepts, K-job-7, K-job-8, K-next, none-named, first-named, K-raised, K-raised-again, K-next-cut, K-copied-round, K-raised-round, K-raised-again-round, none-counted, first-counted, K-stored, K-next-stored, K-first-round, K-later-round}
 
 -- The selections are good.
 none-good : GoodFor K-stored (none-named 0)

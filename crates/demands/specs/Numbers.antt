@@ -10,12 +10,12 @@ use Rattle.check_refusals.specs.Check.{checkNumber}
 use Rattle.check_meaning.specs.Exactly as Check
 use Rattle.check_meaning.specs.Exactly.{checkRules}
 use Rattle.refine_service.specs.Refine.{refineNumber}
-use Rattle.demands.specs.Words.{ArgumentTypes}
-use Rattle.demands.specs.BuildNumbers as Build
-use Rattle.demands.specs.BuildNumbers.{BuildExactly}
-use Rattle.demands.specs.RefineNumbers as Refine
-use Rattle.demands.specs.RefineNumbers.{refineRules, RefineAccepts}
-use Rattle.demands.specs.GivenTypes.{given-by-types}
+use Rattle.demands_words.specs.Words.{ArgumentTypes}
+use Rattle.demands_proofs.specs.BuildNumbers as Build
+use Rattle.demands_proofs.specs.BuildNumbers.{BuildExactly}
+use Rattle.demands_proofs.specs.RefineNumbers as Refine
+use Rattle.demands_proofs.specs.RefineNumbers.{refineRules, RefineAccepts}
+use Rattle.demands_proofs.specs.GivenTypes.{given-by-types}
 
 -- Check: a number exactly where every rule before it in the list holds and its own does not, and 0 exactly where all hold.
 pub check-refuses : (mesh : List ℕ) (n : ℕ) → (checkNumber mesh ≡ n) ↔ Giving (checkRules mesh) n

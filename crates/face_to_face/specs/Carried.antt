@@ -29,10 +29,10 @@ use Rattle.cuts.specs.LinkGrown.{grown-rests}
 use Rattle.cuts_faces.specs.FaceToFace as Over
 use Rattle.cuts_faces.specs.FaceToFace.{ProperlyMarked, MarkedAlike}
 use Rattle.cuts_faces.specs.Proved.{face-to-face, marked-alike}
-use Rattle.demands.specs.Link.{link}
-use Rattle.demands.specs.Lawful.{accepted-lawful}
-use Rattle.demands.specs.MarkedBase.{before-or-same}
-use Rattle.demands.specs.Hanging.{none-hangs}
+use Rattle.demands_proofs.specs.Link.{link}
+use Rattle.demands_proofs.specs.Lawful.{accepted-lawful}
+use Rattle.demands_proofs.specs.MarkedBase.{before-or-same}
+use Rattle.demands_proofs.specs.Hanging.{none-hangs}
 use Rattle.face_to_face.specs.Words.{LiesIn, corner, descends, InTwo, InOne, FaceToFace}
 
 -- ---- pieces that are alike

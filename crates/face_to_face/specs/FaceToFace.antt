@@ -15,10 +15,10 @@ use Rattle.build_service.specs.Build.{plainBytes, buildNumber, buildBytes}
 use Rattle.build_meaning.specs.Accepts.{passed, check-accepts}
 use Rattle.build_meaning.specs.Output as Build
 use Rattle.refine_service.specs.Refine.{refineNumber, refineBytes}
-use Rattle.demands.specs.Words.{ArgumentTypes}
-use Rattle.demands.specs.GivenTypes.{given-by-types}
-use Rattle.demands.specs.RefineNumbers.{refine-accepts-all}
-use Rattle.demands.specs.StoredOf.{stored-of-accepted}
+use Rattle.demands_words.specs.Words.{ArgumentTypes}
+use Rattle.demands_proofs.specs.GivenTypes.{given-by-types}
+use Rattle.demands_proofs.specs.RefineNumbers.{refine-accepts-all}
+use Rattle.demands_proofs.specs.StoredOf.{stored-of-accepted}
 use Rattle.demands.specs.Demand3.{any-room, accepted-again}
 use Rattle.face_to_face.specs.Words.{FaceToFace}
 use Rattle.face_to_face.specs.Carried.{accepted-meets}

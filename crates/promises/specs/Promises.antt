@@ -16,7 +16,7 @@ use Rattle.build_service.specs.Build.{BuildOutcomeIs}
 use Rattle.refine_service.specs.Refine.{RefineOutcomeIs}
 use Rattle.list_service.specs.declared.Listed.{Listed}
 use Rattle.list_service.specs.Listing.{ListOutcomeIs}
-use Rattle.demands.specs.Words.{I16, fullSize, StoredMesh, Figures, ArgumentTypes, BuildAccepts, BuiltMesh, RightSelectionLength, RightSelectionMark, GoodFor}
+use Rattle.demands_words.specs.Words.{I16, fullSize, StoredMesh, Figures, ArgumentTypes, BuildAccepts, BuiltMesh, RightSelectionLength, RightSelectionMark, GoodFor}
 use Rattle.demands.specs.Demand1.{CheckOutcome, BuildOutcome, RefineOutcome, ListOutcome, check-outcome, build-outcome, refine-outcome, list-outcome}
 use Rattle.demands.specs.Demand2.{ClosedFits, closedBytes, demand-2}
 use Rattle.demands.specs.Demand3.{LeastOrFullFrom, demand-3, another-job, another-round, accepted-good}

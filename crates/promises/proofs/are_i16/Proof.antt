@@ -10,8 +10,8 @@ use borrow.Author.Needs.{sfits-of}
 use lib.ListN.{length, getD}
 use lib.IntN.{ℤ, pos}
 use mir.Syntax.{w16}
-use Rattle.demands.specs.Words.{I16}
-use Rattle.demands.specs.GivenTypes.{i16-held}
+use Rattle.demands_words.specs.Words.{I16}
+use Rattle.demands_proofs.specs.GivenTypes.{i16-held}
 use Rattle.promises.proofs.are_i16.Statement.{statement}
 use Rattle.promises.proofs.are_i16.Tie as tie
 

@@ -1,0 +1,213 @@
+-- Refine's numbers, each with the plain statement of what holds where it is not given: refine gives a number exactly where every
+-- rule before it holds and its own does not, and 0 exactly where all twenty hold. Assumes nothing.
+use mathlib.Core.Path.{_≡_, refl, sym, _∙_, subst}
+use mathlib.Core.Bool.{true, false, _||_, true≢false}
+use mathlib.Core.Logic.{_↔_, _⊎_, inl, inr, ⊎-elim}
+use mathlib.Core.List.{List, [], _∷_, _++_}
+use Prim.Native.Nat.{ℕ, _+_, _<_, _≤_}
+use native.Mathlib.Omega.{arith}
+use lib.Dec.{eqb, leb, ltb}
+use borrow.Author.Tests.{eqb-true, leb-true}
+use Rattle.demands_words.specs.Words.{fullSize, RightSelectionLength, RightSelectionMark}
+use Rattle.laws.specs.Below.{either, or-second}
+use Rattle.laws.specs.Order.{Rule, rule, Giving, Judged, judge, done, judged-then, given-exactly, accepted-exactly, given-passes, OneOf, one-of-them}
+use Rattle.stored.specs.declared.Limits.{Limits}
+use Rattle.stored.specs.Layout.{limits, meshLength, headerOf, selectionOf}
+use Rattle.check_refusals.specs.Tables.{Tables, tablesOf, allVertices, allRecords}
+use Rattle.check_refusals.specs.Check.{rows, tableRows, checkNumber}
+use Rattle.check_meaning.specs.Tests.{Fails, reads, not-below, or-fails}
+use Rattle.check_meaning.specs.Accepted.{Within, Accepted}
+use Rattle.check_meaning.specs.Exactly.{checkRules, check-judged, accepts-exactly}
+use Rattle.refine_selection.specs.Selected.{anotherRound}
+use Rattle.refine_pass.specs.Passes.{exceeds}
+use Rattle.refine_service.specs.Refine.{closed, resultOf, selectionRows, resultRows, refineNumber}
+use Rattle.refine_service.specs.Order.{selectionNumber}
+use Rattle.refine_service.specs.Storing.{storedNumber, laterNumber, refine-none, refine-selected, refine-later}
+use Rattle.refine_meaning.specs.Answer.{another-round-refused, job-kept, round-next}
+use Rattle.demands_proofs.specs.Selections.{SameJob, SameRound, RightNumbers, NamesLeaves, NamesNoneLast, RoundRises, EarnsNone, length-passes, mark-passes, rule11-holds, rule12-holds, rule13-holds, rule14-holds, rule15-holds, rule16-holds, rule17-holds, rule18-holds}
+
+-- ---- what the rules ask
+
+-- How long these tables are as a mesh.
+abbrev pub resultLength : Tables → ℕ
+resultLength m = meshLength (allVertices m) (allRecords m)
+
+-- 11 to 18, of the mesh and the selection.
+abbrev pub selectionRules : Tables → List ℕ → List Rule
+selectionRules m selection =
+    rule 11 (RightSelectionLength selection)
+    ∷ rule 12 (RightSelectionMark selection)
+    ∷ rule 13 (SameJob m selection)
+    ∷ rule 14 (SameRound m selection)
+    ∷ rule 15 (RightNumbers m selection)
+    ∷ rule 16 (NamesLeaves m selection)
+    ∷ rule 17 (NamesNoneLast m selection)
+    ∷ rule 18 (RoundRises m)
+    ∷ []
+
+-- 19: no "closed result exceeds 1,024 vertices or 3,072 records"; 20: no "output buffer is shorter than the result".
+abbrev pub resultRules : Tables → ℕ → List Rule
+resultRules m room = rule 19 (Within limits m) ∷ rule 20 (resultLength m ≤ room) ∷ []
+
+-- What refine's rules ask, in the order in which they are tried; the first ten are check's own.
+abbrev pub refineRules : List ℕ → List ℕ → ℕ → List Rule
+refineRules mesh selection room = checkRules mesh ++ (selectionRules (tablesOf mesh) selection ++ resultRules (closed mesh selection) room)
+
+-- All twenty, named.
+pub record RefineAccepts (mesh selection : List ℕ) (room : ℕ) : Type 0 where
+  -- 1 to 10: check accepts the mesh
+  pub accepted : Accepted mesh
+  -- 11 to 18: the selection is good for it
+  pub good : EarnsNone (tablesOf mesh) selection
+  -- 19: no "closed result exceeds 1,024 vertices or 3,072 records"
+  pub within : Within limits (closed mesh selection)
+  -- 20: no "output buffer is shorter than the result"
+  pub long : resultLength (closed mesh selection) ≤ room
+
+-- ---- the tests
+
+pub rule19-holds : (most : Limits) (m : Tables) → Fails (exceeds most (m .header)) (Within most m)
+unfolding exceeds
+rule19-holds most m =
+    reads (or-fails (not-below (most .vertices) (allVertices m)) (not-below (most .records) (allRecords m)))
+    (λ h. record { vertices = h .0; records = h .1 })
+    (λ w. (w .vertices, w .records))
+
+pub rule20-holds : (m : Tables) (room : ℕ) → Fails (ltb room (resultLength m)) (resultLength m ≤ room)
+rule20-holds m room = not-below room (resultLength m)
+
+module _ (m : Tables) (selection : List ℕ) where
+  selection-judged : Judged (selectionRows m selection) (selectionRules m selection)
+  unfolding selectionRows
+  selection-judged =
+      judge (rule11-holds selection) λ h11. judge (rule12-holds selection) λ h12. judge (rule13-holds m selection) λ h13. judge (rule14-holds m selection) λ h14.
+      judge (rule15-holds m selection) λ h15. judge (rule16-holds m selection) λ h16. judge (rule17-holds m selection) λ h17. judge (rule18-holds m) λ h18. done
+
+  -- None of 11 to 18 is given exactly where the selection is good.
+  selection-exactly : (selectionNumber m selection ≡ 0) ↔ EarnsNone m selection
+  unfolding selectionNumber selectionRows
+  selection-exactly =
+      reads (accepted-exactly selection-judged refl)
+      (λ (h11, (h12, (h13, (h14, (h15, (h16, (h17, (h18, end)))))))).
+      record { length = h11; mark = h12; job = h13; round = h14; numbers = h15; leaves = h16; not-last = h17; round-rises = h18 })
+      (λ g. (g .length, (g .mark, (g .job, (g .round, (g .numbers, (g .leaves, (g .not-last, (g .round-rises, tt)))))))))
+
+  selection-within : eqb (selectionNumber m selection) 0 ≡ false → (11 ≤ selectionNumber m selection) × (selectionNumber m selection ≤ 18)
+  unfolding selectionNumber selectionRows
+  selection-within other =
+      let n = selectionNumber m selection in (
+        leb-true 11 n (or-second (eqb n 0) (leb 11 n) other (given-passes (λ k. eqb k 0 || leb 11 k) (selectionRows m selection) refl)),
+        leb-true n 18 (given-passes (λ k. leb k 18) (selectionRows m selection) refl),
+      )
+
+result-judged : (m : Tables) (room : ℕ) → Judged (resultRows (m .header) room) (resultRules m room)
+unfolding resultRows
+result-judged m room = judge (rule19-holds limits m) λ h19. judge (rule20-holds m room) λ h20. done
+
+-- ---- the numbers
+
+module _ (mesh selection : List ℕ) (room : ℕ) where
+  -- Refine gives a number exactly where every rule before it holds and its own does not.
+  pub refine-refuses-exactly : (n : ℕ) → (refineNumber mesh selection room ≡ n) ↔ Giving (refineRules mesh selection room) n
+  unfolding refineNumber rows tableRows selectionRows resultRows
+  refine-refuses-exactly =
+      given-exactly
+      (judged-then (check-judged mesh) λ accepted. judged-then (selection-judged (tablesOf mesh) selection) λ good. result-judged (closed mesh selection) room)
+      refl
+
+  later-exactly : (n : ℕ) → (laterNumber mesh selection room ≡ n) ↔ Giving (resultRules (closed mesh selection) room) n
+  unfolding laterNumber storedNumber resultRows
+  later-exactly = given-exactly (result-judged (closed mesh selection) room) refl
+
+  -- Refine gives 0 exactly where all twenty hold: check accepts the mesh, the selection is good for it, the closed result is within the limits and
+  -- the buffer is long enough.
+  pub refine-accepts-all : (refineNumber mesh selection room ≡ 0) ↔ RefineAccepts mesh selection room
+  refine-accepts-all =
+      reads (refine-none mesh selection room)
+      (λ (checked, (selected, later)). let (within, (long, end)) = later-exactly 0 .0 later in
+      record { accepted = accepts-exactly mesh .0 checked; good = selection-exactly (tablesOf mesh) selection .0 selected; within = within; long = long })
+      (λ a. (accepts-exactly mesh .1 (a .accepted), (selection-exactly (tablesOf mesh) selection .1 (a .good), later-exactly 0 .1 (a .within, (a .long, refl)))))
+
+-- ---- what demand 3 needs: on a mesh that check accepts
+
+-- The number is none of 11 to 18.
+abbrev pub NoneOf11To18 : ℕ → Type 0
+NoneOf11To18 number = 11 ≤ number → number ≤ 18 → ⊥
+
+module _ (mesh selection : List ℕ) (accepted : checkNumber mesh ≡ 0) where
+  -- Where the selection is good, 19 and 20 decide, whatever the buffer's length is.
+  module _ (g : EarnsNone (tablesOf mesh) selection) (room : ℕ) where
+    later : laterNumber mesh selection room ≡ refineNumber mesh selection room
+    later = refine-later mesh selection room accepted (selection-exactly (tablesOf mesh) selection .1 g)
+
+    pub good-gives : (n : ℕ) → (refineNumber mesh selection room ≡ n) ↔ Giving (resultRules (closed mesh selection) room) n
+    good-gives n = let exactly = later-exactly mesh selection room n in (λ e. exactly .0 (later ∙ e), λ r. sym later ∙ exactly .1 r)
+
+    good-one-of : OneOf (0 ∷ 19 ∷ 20 ∷ []) (refineNumber mesh selection room)
+    unfolding laterNumber storedNumber resultRows
+    good-one-of = subst (OneOf (0 ∷ 19 ∷ 20 ∷ [])) later (one-of-them (resultRows (closed mesh selection .header) room))
+
+    pub good-19-exceeds : (refineNumber mesh selection room ≡ 19) ↔ (exceeds limits (closed mesh selection .header) ≡ true)
+    good-19-exceeds =
+        let within = rule19-holds limits (closed mesh selection) in (
+          λ e. ⊎-elim (λ t. t) (λ f. absurd (good-gives 19 .0 e (within .0 f))) (either (exceeds limits (closed mesh selection .header))),
+          λ t. good-gives 19 .1 (λ w. true≢false (sym t ∙ within .1 w)),
+        )
+
+    -- "The largest mesh is 62,484 bytes.": with a buffer that can hold it the number is 0 or 19.
+    pub good-number : fullSize ≤ room → (refineNumber mesh selection room ≡ 0) ⊎ (refineNumber mesh selection room ≡ 19)
+    good-number l =
+        ⊎-elim inl
+        (⊎-elim inr
+        (⊎-elim
+        (λ e. let (w, short) = good-gives 20 .0 e in
+        let vertices = w .vertices in
+        let records = w .records in
+        absurd (short (omega (arith, l, vertices, records))))
+        absurd))
+        good-one-of
+
+  -- Whatever the buffer's length is, the selection is good exactly where the number is none of 11 to 18.
+  pub good-exactly-at : (room : ℕ) → EarnsNone (tablesOf mesh) selection ↔ NoneOf11To18 (refineNumber mesh selection room)
+  good-exactly-at room =
+      let n = selectionNumber (tablesOf mesh) selection in (
+        λ g l h. ⊎-elim (λ e. omega (arith, e, l)) (⊎-elim (λ e. omega (arith, e, h)) (⊎-elim (λ e. omega (arith, e, h)) absurd)) (good-one-of g room),
+        λ none. selection-exactly (tablesOf mesh) selection .0
+            (⊎-elim (eqb-true n 0)
+            (λ f. let (low, high) = selection-within (tablesOf mesh) selection f in
+            let given = refine-selected mesh selection room accepted f .0 in
+            absurd (none (omega (arith, low, given)) (omega (arith, high, given))))
+            (either (eqb n 0))),
+      )
+
+  -- The selection is good exactly where, for every length of the buffer, the number is none of 11 to 18.
+  pub good-exactly : EarnsNone (tablesOf mesh) selection ↔ ((room : ℕ) → NoneOf11To18 (refineNumber mesh selection room))
+  good-exactly = (λ g room. good-exactly-at room .0 g, λ none. good-exactly-at 0 .1 (none 0))
+
+-- ---- a selection is used once
+
+-- A selection that was used gets 14 from every mesh of the job that check accepts and whose round is greater than the selection's.
+pub used-gets-14 : (mesh selection : List ℕ) (room : ℕ) → refineNumber mesh selection room ≡ 0 →
+    (later : List ℕ) → checkNumber later ≡ 0 → headerOf later .job ≡ headerOf mesh .job → selectionOf selection .round < headerOf later .round →
+    (any : ℕ) → refineNumber later selection any ≡ 14
+unfolding tablesOf
+used-gets-14 mesh selection room e later accepted job above any =
+    let g = refine-accepts-all mesh selection room .0 e .good in
+    let right = rule14-holds (tablesOf later) selection .0 in
+    another-round-refused later selection any accepted
+    (length-passes selection .1 (g .length))
+    (mark-passes selection .1 (g .mark))
+    (rule13-holds (tablesOf later) selection .1 (g .job ∙ sym job))
+    (⊎-elim (λ t. t) (λ f. let same : selectionOf selection .round ≡ headerOf later .round = right f in absurd (omega (arith, same, above))) (either (anotherRound (headerOf later) (selectionOf selection))))
+
+-- So from the result and from all that follows: from every mesh of the result's job that check accepts and whose round is the result's, or k
+-- rounds later.
+pub used-gets-14-after : (mesh selection : List ℕ) (room : ℕ) → refineNumber mesh selection room ≡ 0 →
+    (later : List ℕ) (k : ℕ) → checkNumber later ≡ 0 → headerOf later .job ≡ resultOf (closed mesh selection) .header .job → headerOf later .round ≡ resultOf (closed mesh selection) .header .round + k →
+    (any : ℕ) → refineNumber later selection any ≡ 14
+unfolding tablesOf
+used-gets-14-after mesh selection room e later k accepted job round any =
+    let g = refine-accepts-all mesh selection room .0 e .good in
+    let same : selectionOf selection .round ≡ headerOf mesh .round = g .round in
+    let next = round-next mesh selection in
+    used-gets-14 mesh selection room e later accepted (job ∙ job-kept mesh selection) (omega (arith, same, next, round)) any

@@ -1,0 +1,71 @@
+-- The bytes that check accepts store a set of cuts of a properly marked base mesh with no hanging edge, within the limits.
+-- Assumes nothing.
+use mathlib.Core.Path.{_≡_, refl, sym, ap, _∙_}
+use mathlib.Core.List.{List}
+use Prim.Native.Nat.{ℕ}
+use borrow.Author.Tests.{not-false}
+use Rattle.laws.specs.Lists.{Bytes}
+use Rattle.stored.specs.Layout.{limits, rightMark, rightLength, headerOf, meshOf, meshBytes}
+use Rattle.stored.specs.Fitting.{header-fits}
+use Rattle.stored.specs.Meshes.{mesh-written-again}
+use Rattle.check_refusals.specs.Tables.{tablesOf, baseRecords}
+use Rattle.check_refusals.specs.Refusals.{wrongLength, wrongMark}
+use Rattle.check_meaning.specs.Accepted.{RightLength, RightMark, Accepted}
+use Rattle.check_meaning.specs.Heading.{rule1-holds, rule2-holds}
+use Rattle.check_meaning.specs.Cuts.{stored-four}
+use Rattle.cuts.specs.Sets.{Cuts}
+use Rattle.cuts.specs.LinkSets.{cutsOf, represented}
+use Rattle.cuts.specs.LinkGrown.{Grown}
+use Rattle.demands_words.specs.Words.{named, written, StoredMesh}
+use Rattle.demands_proofs.specs.Link.{link}
+use Rattle.demands_proofs.specs.Lawful.{accepted-lawful}
+use Rattle.demands_proofs.specs.BaseOf.{baseOf, numbersOf, base-grown}
+use Rattle.demands_proofs.specs.Marked.{base-marked}
+use Rattle.demands_proofs.specs.Numbered.{grown-vertices, grown-records}
+use Rattle.demands_proofs.specs.SetOf.{set-rests, set-shallow, grown-fits}
+use Rattle.demands_proofs.specs.GrownStores.{grown-holds, holds-written}
+
+-- Accepted tables hold their own numbering, and the mesh that the bytes hold is written of it.
+stored-written : (s : List ℕ) → Accepted s → (C : Cuts (baseRecords (tablesOf s))) → Grown (named (baseOf (tablesOf s))) (link (tablesOf s)) C →
+    meshOf s ≡ written (headerOf s .job) (headerOf s .round) (baseOf (tablesOf s)) (numbersOf (tablesOf s))
+unfolding tablesOf meshOf headerOf
+stored-written s a C g =
+    let m = tablesOf s in
+    let holds = grown-holds m (baseOf m) C g refl (λ v h. let x = a .mesh .vertices .base v h in (x .p, x .q)) (λ n h. stored-four s n) in
+    holds-written m (baseOf m) (numbersOf m) holds (headerOf s .job) (headerOf s .round)
+
+-- The bytes are those of the mesh that they hold.
+stored-bytes : (s : List ℕ) → Bytes s → RightLength s → RightMark s → meshBytes (meshOf s) ≡ s
+unfolding wrongLength wrongMark
+stored-bytes s b long right =
+    mesh-written-again s b (not-false (rightLength s) (rule1-holds s .1 long)) (not-false (rightMark s) (rule2-holds s .1 right))
+
+pub stored-of-accepted : (s : List ℕ) → Bytes s → Accepted s → StoredMesh s
+stored-of-accepted s b a =
+    let m = tablesOf s in
+    let four = stored-four s in
+    let l = accepted-lawful m (a .mesh) four in
+    let C = cutsOf (link m) l in
+    let g = base-grown m l C (represented (link m) l) in
+    let fits = header-fits s b in
+    record {
+      job = headerOf s .job;
+      round = headerOf s .round;
+      base = baseOf m;
+      cuts = C;
+      right = record {
+        marked = base-marked m (a .mesh) four;
+        none-hangs = set-rests m (baseOf m) C g (a .none-hangs);
+        fits = grown-fits m (baseOf m) C g refl limits (a .limits .vertices) (a .limits .records);
+        shallow = set-shallow m (baseOf m) C g (a .mesh .cuts .generations);
+      };
+      stores = record {
+        job-fits = fits .job;
+        round-fits = fits .round;
+        numbers = numbersOf m;
+        vertices-numbered =
+            grown-vertices m (baseOf m) C g refl (λ v h. refl) (λ v beyond there. a .mesh .vertices .made v (record { beyond = beyond; there = there }) .halfway);
+        records-numbered = grown-records m (baseOf m) C g refl;
+        bytes = sym (stored-bytes s b (a .length) (a .mark)) ∙ ap meshBytes (stored-written s a C g);
+      };
+    }

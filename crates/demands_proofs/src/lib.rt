@@ -1,0 +1,1 @@
+// The proofs behind the demands. Specs only.
