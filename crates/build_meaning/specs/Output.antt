@@ -1,13 +1,14 @@
 -- Every byte of build's output buffer: it stays as long as it was, and past the result, or after a refusal, it is zero.
 use mathlib.Core.Path.{_≡_}
 use mathlib.Core.Logic.{_≢_, ⊎-elim}
-use mathlib.Core.List.{List, _++_}
-use Prim.Native.Nat.{ℕ, _-_, _≤_}
+use mathlib.Core.List.{List}
+use Prim.Native.Nat.{ℕ, _≤_}
 use native.Mathlib.Omega.{arith}
 use lib.ListN.{length, replicate, length-append, length-replicate}
 use lib.IntN.{ℤ}
 use lib.Dec.{eqb}
 use borrow.Author.Tests.{eqb-true, eqb-false, eq-eqb, ne-eqb}
+use Rattle.laws.specs.Lists.{zeroPast}
 use Rattle.laws.specs.Below.{either}
 use Rattle.build_service.specs.Build.{plainBytes, buildNumber, buildBytes}
 use Rattle.build_meaning.specs.Accepts.{passed}
@@ -15,7 +16,7 @@ use Rattle.build_meaning.specs.Accepts.{passed}
 module _ (job : ℕ) (coordinates : List ℤ) (corners : List ℕ) (room : ℕ) where
   -- After acceptance the buffer holds the stored mesh, and zeros past it.
   pub accepted-bytes : buildNumber job coordinates corners room ≡ 0 →
-      buildBytes job coordinates corners room ≡ plainBytes job coordinates corners ++ replicate (room - length (plainBytes job coordinates corners)) 0
+      buildBytes job coordinates corners room ≡ zeroPast room (plainBytes job coordinates corners)
   unfolding buildBytes
   accepted-bytes e = rw (eq-eqb (buildNumber job coordinates corners room) 0 e)
 

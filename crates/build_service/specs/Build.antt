@@ -1,11 +1,12 @@
 -- What build answers, for every job number, all coordinates and corners, and every length of the output buffer.
 use mathlib.Core.Path.{_≡_, sym, _∙_}
-use mathlib.Core.Bool.{Bool, not, cond, _||_}
-use mathlib.Core.List.{List, [], _∷_, _++_}
-use Prim.Native.Nat.{ℕ, _-_, _/_, _%_}
-use lib.ListN.{length, replicate}
+use mathlib.Core.Bool.{Bool, not, _||_}
+use mathlib.Core.List.{List, [], _∷_}
+use Prim.Native.Nat.{ℕ, _/_, _%_}
+use lib.ListN.{length}
 use lib.IntN.{ℤ}
 use lib.Dec.{eqb, ltb}
+use Rattle.laws.specs.Lists.{outputOf}
 use Rattle.laws.specs.Below.{listBelow}
 use Rattle.laws.specs.Order.{Row, row, firstBroken}
 use Rattle.stored.specs.declared.Header.{Header}
@@ -61,10 +62,7 @@ buildNumber job coordinates corners room = firstBroken (buildRows job coordinate
 
 -- "After a refusal the output buffer is zero throughout; after acceptance it is zero past the result."
 unfoldable pub buildBytes : ℕ → List ℤ → List ℕ → ℕ → List ℕ
-buildBytes job coordinates corners room =
-    let bytes = plainBytes job coordinates corners in
-    let stored = bytes ++ replicate (room - length bytes) 0 in
-    cond (eqb (buildNumber job coordinates corners room) 0) stored (replicate room 0)
+buildBytes job coordinates corners room = outputOf (buildNumber job coordinates corners room) room (plainBytes job coordinates corners)
 
 -- "Each public function states one outcome for each input: number, counts and all bytes of the output, refused or not."
 pub record BuildOutcomeIs (job : ℕ) (coordinates : List ℤ) (corners : List ℕ) (room r : ℕ) (out : List ℕ) : Type 0 where

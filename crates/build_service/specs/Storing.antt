@@ -13,7 +13,7 @@ use lib.Dec.{eqb, ltb}
 use borrow.Author.Tests.{ne-eqb, lt-ltb, le-ltb}
 use Rattle.laws.specs.Below.{listBelow, list-none, list-suc, list-length}
 use Rattle.laws.specs.Order.{Row, row, firstBroken, one-after-other}
-use Rattle.laws.specs.Lists.{joined, joined-append, joined-length, sets-append, clear-with}
+use Rattle.laws.specs.Lists.{joined, joined-append, joined-length, sets-append, clear-with, outputOf}
 use Rattle.stored.specs.declared.Layout.{Layout}
 use Rattle.stored.specs.declared.Header.{Header}
 use Rattle.stored.specs.declared.Vertex.{Vertex}
@@ -230,9 +230,7 @@ unfoldable pub laterNumber : List ℕ → ℕ → ℕ
 laterNumber s room = firstBroken (judgedRows (tablesOf s) ++ (row 20 (ltb room (length s)) ∷ []))
 
 unfoldable pub laterBytes : List ℕ → ℕ → List ℕ
-laterBytes s room =
-    let stored = s ++ replicate (room - length s) 0 in
-    cond (eqb (laterNumber s room) 0) stored (replicate room 0)
+laterBytes s room = outputOf (laterNumber s room) room s
 
 module _ (s : List ℕ) (room : ℕ) where
   later-is : laterNumber s room ≡ cond (eqb (judgedNumber (tablesOf s)) 0) (cond (ltb room (length s)) 20 0) (judgedNumber (tablesOf s))

@@ -15,7 +15,7 @@
 use mathlib.Core.Path.{_≡_, _∙_}
 use mathlib.Core.Logic.{_≢_, _⊎_, inl, inr, ⊎-elim}
 use mathlib.Core.List.{List, [], _∷_, _++_}
-use Prim.Native.Nat.{ℕ, _-_, _≤_, _<_}
+use Prim.Native.Nat.{ℕ, _≤_, _<_}
 use native.Mathlib.Omega.{arith}
 use lib.ListN.{length, getD, replicate}
 use lib.IntN.{ℤ}
@@ -23,7 +23,7 @@ use lib.Dec.{ltb}
 use borrow.Author.Tests.{ltb-true, ltb-false}
 use Rattle.laws.specs.Below.{either}
 use Rattle.check_refusals.specs.Tables.{tablesOf}
-use Rattle.laws.specs.Lists.{Bytes}
+use Rattle.laws.specs.Lists.{zeroPast, Bytes}
 use Rattle.laws.specs.Order.{OneOf}
 use Rattle.stored.specs.Layout.{limits, meshLength, headerOf, Mesh, meshBytes}
 use Rattle.check_refusals.specs.declared.Report.{Report}
@@ -72,7 +72,7 @@ pub record MeshIn (out : List ℕ) (room : ℕ) : Type 0 where
   -- They are at most "3,072 records".
   pub few-records : mesh .header .records ≤ limits .records
   -- Its bytes come first, and the buffer "is zero past the result".
-  pub bytes : out ≡ meshBytes mesh ++ replicate (room - length (meshBytes mesh)) 0
+  pub bytes : out ≡ zeroPast room (meshBytes mesh)
   -- They are as many as the header says: "20 + 10·vertices + 17·records".
   pub as-long : length (meshBytes mesh) ≡ meshLength (mesh .header .vertices) (mesh .header .records)
   -- The buffer has room for them.
@@ -104,7 +104,7 @@ pub record ListOutcome (s : List ℕ) (room : ℕ) (r : Listed) (out : List ℕ)
   -- The listing and zeros past it, with its length and the number that it says: check's, or 1 for what is longer than the largest mesh; or the buffer is
   -- shorter than the listing: "all zeros", and 20 in place of 0.
   pub either :
-      ((r .number ≡ listedNumber s) × (r .length ≡ length (listingOf s)) × (out ≡ listingOf s ++ replicate (room - length (listingOf s)) 0))
+      ((r .number ≡ listedNumber s) × (r .length ≡ length (listingOf s)) × (out ≡ zeroPast room (listingOf s)))
       ⊎ ((room < length (listingOf s)) × ((r .number ≡ 20) ⊎ ((1 ≤ r .number) × (r .number ≡ listedNumber s))) × (r .length ≡ 0) × (out ≡ replicate room 0))
   -- 393,344 bytes hold every listing.
   pub enough : largestListing ≤ room → length (listingOf s) ≤ room

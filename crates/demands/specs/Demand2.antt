@@ -6,11 +6,11 @@
 -- ranks edges; `closed` and `resultOf` (refine_service/specs/Refine) are the tables after pass one and all later passes, and the mesh written of them.
 use mathlib.Core.Path.{_≡_, sym, _∙_}
 use mathlib.Core.Logic.{_↔_}
-use mathlib.Core.List.{List, _++_}
-use Prim.Native.Nat.{ℕ, _+_, _-_, _*_, _≤_, _<_}
-use lib.ListN.{length, getD, replicate}
+use mathlib.Core.List.{List}
+use Prim.Native.Nat.{ℕ, _+_, _*_, _≤_, _<_}
+use lib.ListN.{length, getD}
 use lib.IntN.{ℤ, pos}
-use Rattle.laws.specs.Lists.{Bytes}
+use Rattle.laws.specs.Lists.{zeroPast, Bytes}
 use Rattle.stored.specs.Layout.{limits, meshBytes}
 use Rattle.check_refusals.specs.Rows.{report-number}
 use Rattle.check_meaning.specs.Exactly.{accepts-exactly}
@@ -58,11 +58,11 @@ pub record MeetsDemand2 (S : Services) : Type 0 where
   pub build-stores : (job : ℕ) (coordinates : List ℤ) (corners : List ℕ) → ArgumentTypes job coordinates corners → (room : ℕ) → S .build job coordinates corners room ≡ 0 →
       BuiltMesh job coordinates corners (S .buildOut job coordinates corners room) room
   pub marking : (job : ℕ) (coordinates : List ℤ) (corners : List ℕ) → ArgumentTypes job coordinates corners → (room : ℕ) → S .build job coordinates corners room ≡ 0 →
-      S .buildOut job coordinates corners room ≡ plainBytes job coordinates corners ++ replicate (room - length (plainBytes job coordinates corners)) 0
+      S .buildOut job coordinates corners room ≡ zeroPast room (plainBytes job coordinates corners)
   -- Refine of a stored mesh and a good selection accepts exactly where the closed result fits, and gives that result, "to the byte".
   pub refine-accepts : (s : List ℕ) (x : StoredMesh s) (selection : List ℕ) → GoodFor x selection → (room : ℕ) → (S .refine s selection room ≡ 0) ↔ ClosedFits s selection room
   pub closing : (s : List ℕ) (x : StoredMesh s) (selection : List ℕ) → GoodFor x selection → (room : ℕ) → S .refine s selection room ≡ 0 →
-      S .refineOut s selection room ≡ closedBytes s selection ++ replicate (room - length (closedBytes s selection)) 0
+      S .refineOut s selection room ≡ zeroPast room (closedBytes s selection)
 
 -- Ours meet it.
 pub demand-2 : MeetsDemand2 ours

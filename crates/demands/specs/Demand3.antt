@@ -6,10 +6,11 @@
 -- The words are in `Words`: `GoodSelection`, `Closes` (the sets that close).
 use mathlib.Core.Path.{_≡_}
 use mathlib.Core.Logic.{_↔_, _≢_, _⊎_}
-use mathlib.Core.List.{List, _++_}
-use Prim.Native.Nat.{ℕ, suc, _+_, _-_, _*_, _/_, _≤_, _<_, max}
+use mathlib.Core.List.{List}
+use Prim.Native.Nat.{ℕ, suc, _+_, _*_, _/_, _≤_, _<_, max}
 use native.Mathlib.Omega.{arith}
 use lib.ListN.{length, replicate}
+use Rattle.laws.specs.Lists.{zeroPast}
 use Rattle.stored.specs.Layout.{limits, headerOf, selectionOf}
 use Rattle.cuts_names.specs.Base.{SameFace, markedAt}
 use Rattle.cuts_names.specs.Pieces.{Node, generation, pieceAt}
@@ -29,7 +30,7 @@ pub record Refined (job round : ℕ) (b : BaseMesh) (C : Cuts (b .pieces)) (sele
   pub set : Cuts (b .pieces)
   pub mesh : List ℕ
   pub fits-room : length mesh ≤ room
-  pub written : bytes ≡ mesh ++ replicate (room - length mesh) 0
+  pub written : bytes ≡ zeroPast room mesh
   pub stores : Stores mesh job (round + 1) b set
   -- no hanging edge, within 01's limits
   pub right : RightSet b set

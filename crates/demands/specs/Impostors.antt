@@ -3,11 +3,12 @@
 use mathlib.Core.Path.{_≡_, sym, ap, _∙_}
 use mathlib.Core.Bool.{true, false}
 use mathlib.Core.Logic.{_≢_, _↔_, ⊎-elim}
-use mathlib.Core.List.{List, _++_}
-use Prim.Native.Nat.{ℕ, _-_, _≤_, _<_}
+use mathlib.Core.List.{List}
+use Prim.Native.Nat.{ℕ, _≤_, _<_}
 use native.Mathlib.Omega.{arith}
-use lib.ListN.{length, getD, replicate}
+use lib.ListN.{getD}
 use lib.IntN.{ℤ}
+use Rattle.laws.specs.Lists.{zeroPast}
 use Rattle.laws.specs.Below.{same-tests}
 use Rattle.stored.specs.Layout.{namedIn}
 use Rattle.build_marks.specs.Rows.{K-coordinates, K-corners}
@@ -97,7 +98,7 @@ module _ (S : Services) (m : MeetsDemand2 S) where
 
   -- "one that always hands back the same mesh": build, of jobs 7 and 8;
   pub builds-the-same-mesh : (same : List ℕ) →
-      ((job : ℕ) (coordinates : List ℤ) (corners : List ℕ) (room : ℕ) → S .build job coordinates corners room ≡ 0 → S .buildOut job coordinates corners room ≡ same ++ replicate (room - length same) 0) → ⊥
+      ((job : ℕ) (coordinates : List ℤ) (corners : List ℕ) (room : ℕ) → S .build job coordinates corners room ≡ 0 → S .buildOut job coordinates corners room ≡ zeroPast room same) → ⊥
   builds-the-same-mesh same habit =
       let seven = sym (habit 7 K-coordinates K-corners 77 (accepts-K 7 (omega arith))) ∙ builds-K 7 (omega arith) in
       let eight = sym (habit 8 K-coordinates K-corners 77 (accepts-K 8 (omega arith))) ∙ builds-K 8 (omega arith) in
@@ -106,7 +107,7 @@ module _ (S : Services) (m : MeetsDemand2 S) where
 
   -- refine, in rounds 0 and 1.
   pub refines-to-the-same-mesh : (same : List ℕ) →
-      ((mesh selection : List ℕ) (room : ℕ) → S .refine mesh selection room ≡ 0 → S .refineOut mesh selection room ≡ same ++ replicate (room - length same) 0) → ⊥
+      ((mesh selection : List ℕ) (room : ℕ) → S .refine mesh selection room ≡ 0 → S .refineOut mesh selection room ≡ zeroPast room same) → ⊥
   refines-to-the-same-mesh same habit =
       let first = sym (habit K (none-named 0) 77 raises-K) ∙ refines-ours K K-stored (none-named 0) none-good 77 .1 raises-K in
       let second = sym (habit K-next (none-named 1) 77 raises-K-again) ∙ refines-ours K-next K-next-stored (none-named 1) none-good-again 77 .1 raises-K-again in
@@ -114,7 +115,7 @@ module _ (S : Services) (m : MeetsDemand2 S) where
       omega (arith, both, K-raised-round, K-raised-again-round)
 
   -- "or copies its input".
-  pub copies-its-input : ((mesh selection : List ℕ) (room : ℕ) → S .refine mesh selection room ≡ 0 → S .refineOut mesh selection room ≡ mesh ++ replicate (room - length mesh) 0) → ⊥
+  pub copies-its-input : ((mesh selection : List ℕ) (room : ℕ) → S .refine mesh selection room ≡ 0 → S .refineOut mesh selection room ≡ zeroPast room mesh) → ⊥
   copies-its-input habit =
       let out = sym (habit K (none-named 0) 77 raises-K) ∙ refines-ours K K-stored (none-named 0) none-good 77 .1 raises-K in
       let both = ap (λ (l : List ℕ). getD l 9 0) out in
@@ -161,7 +162,7 @@ module _ (S : Services) (m : MeetsDemand3 S) where
   -- inside every other closing set": with an empty selection the old set closes.
   pub cuts-everything-at-first :
       ((s : List ℕ) (x : StoredMesh s) (selection : List ℕ) (room : ℕ) → x .round ≡ 0 → S .refine s selection room ≡ 0 →
-      (mesh : List ℕ) (y : StoredMesh mesh) → S .refineOut s selection room ≡ mesh ++ replicate (room - length mesh) 0 → (n : Node) → Leaf (x .cuts) n → y .cuts .has n ≡ true) → ⊥
+      (mesh : List ℕ) (y : StoredMesh mesh) → S .refineOut s selection room ≡ zeroPast room mesh → (n : Node) → Leaf (x .cuts) n → y .cuts .has n ≡ true) → ⊥
   cuts-everything-at-first habit =
       let x = K-stored in
       let accepted = accepts K x (none-named 0) none-good (any-room K x (none-named 0) 77 K-raised) fullSize (omega arith) in
@@ -184,7 +185,7 @@ module _ (S : Services) (m : MeetsDemand3 S) where
   -- uncut."
   pub only-raises-later :
       ((s : List ℕ) (x : StoredMesh s) (selection : List ℕ) (room : ℕ) → 0 < x .round → S .refine s selection room ≡ 0 →
-      (mesh : List ℕ) (y : StoredMesh mesh) → S .refineOut s selection room ≡ mesh ++ replicate (room - length mesh) 0 → (n : Node) → x .cuts .has n ≡ false → y .cuts .has n ≡ false) → ⊥
+      (mesh : List ℕ) (y : StoredMesh mesh) → S .refineOut s selection room ≡ zeroPast room mesh → (n : Node) → x .cuts .has n ≡ false → y .cuts .has n ≡ false) → ⊥
   only-raises-later habit =
       let x = K-next-stored in
       let accepted = accepts K-next x first-named first-good (any-room K-next x first-named 121 K-next-cut) fullSize (omega arith) in

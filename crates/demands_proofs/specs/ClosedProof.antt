@@ -2,12 +2,13 @@
 use mathlib.Core.Path.{_≡_, sym, ap, subst, _∙_}
 use mathlib.Core.Bool.{Bool, true, false, _||_}
 use mathlib.Core.Logic.{_≢_, _⊎_, _↔_, inl, inr, ⊎-elim}
-use mathlib.Core.List.{List, _++_}
-use Prim.Native.Nat.{ℕ, _-_, _≤_, _<_}
+use mathlib.Core.List.{List}
+use Prim.Native.Nat.{ℕ, _≤_, _<_}
 use native.Mathlib.Omega.{arith}
 use lib.Dec.{ltb}
 use lib.ListN.{length, replicate}
 use borrow.Author.Tests.{ltb-true, ne-eqb}
+use Rattle.laws.specs.Lists.{zeroPast}
 use Rattle.laws.specs.Below.{either}
 use Rattle.stored.specs.Layout.{limits, headerOf, meshBytes, selectionOf}
 use Rattle.check_refusals.specs.Tables as Check
@@ -94,8 +95,8 @@ module _ (s : List ℕ) (x : StoredMesh s) (selection : List ℕ) (good : GoodFo
     pub result-fits : length result ≤ room
     result-fits = subst (λ (m : Check.Tables). length (meshBytes (resultOf m)) ≤ room) (is-closed s x selection good) (refined-within s selection room e)
 
-    pub result-written : refineBytes s selection room ≡ result ++ replicate (room - length result) 0
-    result-written = subst (λ (m : Check.Tables). refineBytes s selection room ≡ meshBytes (resultOf m) ++ replicate (room - length (meshBytes (resultOf m))) 0) (is-closed s x selection good) (accepted-bytes s selection room e)
+    pub result-written : refineBytes s selection room ≡ zeroPast room result
+    result-written = subst (λ (m : Check.Tables). refineBytes s selection room ≡ zeroPast room (meshBytes (resultOf m))) (is-closed s x selection good) (accepted-bytes s selection room e)
 
     pub result-volume : (before after : List Node) → LeafList (x .cuts) before → LeafList D after → sumOf (sixfoldAt b) after ≡ sumOf (sixfoldAt b) before
     result-volume before after p q = stored-volume result (result-mesh s x selection good (accepted-few e)) after q ∙ sym (stored-volume s x before p)

@@ -3,7 +3,7 @@ use mathlib.Core.Path.{_≡_, refl, sym, ap, ap₂, _∙_}
 use mathlib.Core.Bool.{Bool, true, false, cond}
 use mathlib.Core.Logic.{_≢_, _⊎_, inl, inr, ⊎-elim}
 use mathlib.Core.List.{List, [], _∷_, _++_, append-assoc}
-use Prim.Native.Nat.{ℕ, zero, suc, _-_, _≤_, _<_}
+use Prim.Native.Nat.{ℕ, zero, suc, _≤_, _<_}
 use native.Mathlib.Nat.{not-suc-le-zero, le-of-suc-le-suc}
 use native.Mathlib.Omega.{arith}
 use lib.ListN.{length, getD, replicate, length-append, length-replicate}
@@ -12,7 +12,7 @@ use lib.Dec.{eqb, ltb}
 use borrow.Author.Tests.{eqb-true, eqb-false, ne-eqb, lt-ltb, le-ltb, ltb-false, eq-eqb}
 use Rattle.laws.specs.Below.{either, list-length}
 use Rattle.laws.specs.Order.{OneOf, one-of-them, brokenAt, none-broken}
-use Rattle.laws.specs.Lists.{Bytes, joined, joined-length}
+use Rattle.laws.specs.Lists.{zeroPast, Bytes, joined, joined-length}
 use Rattle.stored.specs.Layout.{vertexWidth, recordWidth, limits, lastRound, meshLength, headerOf, headerBytes, vertexBytes, recordBytes, Mesh, meshBytes}
 use Rattle.stored.specs.Fitting.{HeaderFits, header-fits}
 use Rattle.stored.specs.Entries.{header-wide, vertex-wide, record-wide, header-again}
@@ -122,7 +122,7 @@ module _ (job : ℕ) (coordinates : List ℤ) (corners : List ℕ) (room : ℕ) 
     unfolding plainBytes
     built-within = passed job coordinates corners room e .fits
 
-    pub built-bytes : buildBytes job coordinates corners room ≡ meshBytes (plainMesh job coordinates corners) ++ replicate (room - length (meshBytes (plainMesh job coordinates corners))) 0
+    pub built-bytes : buildBytes job coordinates corners room ≡ zeroPast room (meshBytes (plainMesh job coordinates corners))
     unfolding plainBytes
     built-bytes = Build.accepted-bytes job coordinates corners room e
 

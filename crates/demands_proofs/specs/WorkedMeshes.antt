@@ -2,15 +2,15 @@
 -- Assumes nothing.
 use mathlib.Core.Path.{_≡_, refl, sym, _∙_}
 use mathlib.Core.Bool.{Bool, true, _&&_}
-use mathlib.Core.List.{List, [], _∷_, _++_}
-use Prim.Native.Nat.{ℕ, zero, suc, _-_, _<_}
+use mathlib.Core.List.{List, [], _∷_}
+use Prim.Native.Nat.{ℕ, zero, suc, _<_}
 use native.Mathlib.Omega.{arith}
-use lib.ListN.{length, getD, replicate}
+use lib.ListN.{length, getD}
 use lib.IntN.{ℤ, pos}
 use lib.Dec.{ltb}
 use borrow.Author.Tests.{ltb-true}
 use Rattle.laws.specs.Below.{and-left, and-right}
-use Rattle.laws.specs.Lists.{Bytes, bytes-none, bytes-cons}
+use Rattle.laws.specs.Lists.{zeroPast, Bytes, bytes-none, bytes-cons}
 use Rattle.stored.specs.Layout.{headerOf}
 use Rattle.check_refusals.specs.Tables.{tablesOf}
 use Rattle.build_marks.specs.Rows.{K-coordinates, K-corners}
@@ -102,7 +102,7 @@ unfolding refine-computed
 K-next-cut = refl
 
 -- "round (u16) at 9": it rises, and a copy has the old one.
-pub K-copied-round : getD (K ++ replicate (77 - length K) 0) 9 0 ≡ 0
+pub K-copied-round : getD (zeroPast 77 K) 9 0 ≡ 0
 unfolding refine-computed
 K-copied-round = refl
 

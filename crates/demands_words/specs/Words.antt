@@ -16,12 +16,13 @@
 use mathlib.Core.Path.{_≡_}
 use mathlib.Core.Logic.{_↔_, _≢_}
 use mathlib.Core.Bool.{true, false, cond, false≢true}
-use mathlib.Core.List.{List, [], _∷_, _++_}
-use Prim.Native.Nat.{ℕ, _≤_, _<_, _+_, _*_, _/_, _-_}
-use lib.ListN.{length, getD, replicate}
+use mathlib.Core.List.{List, [], _∷_}
+use Prim.Native.Nat.{ℕ, _≤_, _<_, _+_, _*_, _/_}
+use lib.ListN.{length, getD}
 use lib.Dec.{ltb}
 use lib.IntN.{ℤ, pos, negsuc}
 use lib.Signed.{_≤ℤ_}
+use Rattle.laws.specs.Lists.{zeroPast}
 use Rattle.laws.specs.Pairs.{SamePair}
 use Rattle.piece_edges.specs.Edges.{lowSlot, highSlot}
 use Rattle.piece.specs.Shape.{Shape, mark, lastGeneration, shapeOf}
@@ -421,7 +422,7 @@ pub record BuiltMesh (job : ℕ) (coordinates : List ℤ) (corners : List ℕ) (
   pub result : List ℕ
   pub stores : Stores result job 0 (plainBase coordinates corners) (no-cuts (plainBase coordinates corners .pieces))
   pub fits-room : length result ≤ room
-  pub buffer : bytes ≡ result ++ replicate (room - length result) 0
+  pub buffer : bytes ≡ zeroPast room result
 
 -- ======== demand 3: "every set of further cuts that cuts each selected piece and leaves no hanging edge"
 

@@ -2,11 +2,11 @@
 -- accepted mesh: each face of a leaf is in exactly two leaves, or it is in one leaf and lies in a base face that is in one base record only; and two leaves
 -- that share a face mark it alike." The words are `Words`.
 use mathlib.Core.Path.{_≡_, sym, _∙_}
-use mathlib.Core.List.{List, _++_}
-use Prim.Native.Nat.{ℕ, _-_, _≤_}
-use lib.ListN.{length, replicate}
+use mathlib.Core.List.{List}
+use Prim.Native.Nat.{ℕ, _≤_}
+use lib.ListN.{length}
 use lib.IntN.{ℤ}
-use Rattle.laws.specs.Lists.{Bytes}
+use Rattle.laws.specs.Lists.{zeroPast, Bytes}
 use Rattle.check_refusals.specs.Tables.{tablesOf}
 use Rattle.check_refusals.specs.Check.{checkNumber}
 use Rattle.check_refusals.specs.Rows.{report-number}
@@ -31,7 +31,7 @@ face-to-face s e = accepted-meets s (accepts-exactly s .0 e)
 pub record Meets (bytes : List ℕ) (room : ℕ) : Type 0 where
   pub mesh : List ℕ
   pub fits-room : length mesh ≤ room
-  pub buffer : bytes ≡ mesh ++ replicate (room - length mesh) 0
+  pub buffer : bytes ≡ zeroPast room mesh
   pub accepted : checkNumber mesh ≡ 0
   pub meets : FaceToFace (tablesOf mesh)
 

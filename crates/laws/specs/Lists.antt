@@ -1,5 +1,6 @@
 -- Laws of lists that recur and that the kit's lists don't have: entries of one width, runs that are written, copies that go on
 -- turn by turn, and lists of bytes.
+use mathlib.Core.Bool.{cond}
 use mathlib.Core.Path.{_≡_, refl, sym, ap, _∙_}
 use Prim.Native.Nat.{ℕ, zero, suc, _+_, _-_, _*_, _≤_, _<_, min, suc-le-suc}
 use mathlib.Core.Logic.{⊎-elim}
@@ -9,7 +10,7 @@ use native.Mathlib.Omega.{arith}
 use mathlib.Core.List.{List, [], _∷_, _++_, append-assoc, append-nil}
 use lib.ListN.{length, getD, take, drop, set, replicate, length-append, length-replicate, getD-replicate, take-append-drop, drop-of-length-le}
 use lib.Seq.{sets, length-sets, sets-eq, set-out, drop-set-lt, take-set-le, take-add, take-suc, take-all, take-nil, ext-getD, drop-cons, drop-drop, drop-at, drop-append-add, length-take-le}
-use lib.Dec.{lit<, leb}
+use lib.Dec.{lit<, leb, eqb}
 use borrow.Author.Tests.{leb-true, leb-false}
 use Rattle.laws.specs.Below.{either, listBelow, list-none, list-suc}
 
@@ -196,6 +197,16 @@ clear-done d n h =
     ∙ sets-eq zeros d 0 (omega arith)
     ∙ ap (λ (r : List ℕ). zeros ++ r) (drop-of-length-le d {i = 0 + length zeros} (omega arith))
     ∙ append-nil zeros
+
+-- ---- an output buffer
+
+-- "zero past the result": the bytes, and zeros to the end of a buffer of so many.
+abbrev pub zeroPast : ℕ → List ℕ → List ℕ
+zeroPast room bytes = bytes ++ replicate (room - length bytes) 0
+
+-- "After a refusal the output buffer is zero throughout; after acceptance it is zero past the result."
+abbrev pub outputOf : ℕ → ℕ → List ℕ → List ℕ
+outputOf number room bytes = let stored = zeroPast room bytes in cond (eqb number 0) stored (replicate room 0)
 
 -- ---- bytes
 

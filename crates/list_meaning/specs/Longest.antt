@@ -11,7 +11,7 @@ use lib.ListN.{length, take, getD, replicate, length-append}
 use lib.Seq.{take-at}
 use borrow.Author.Tests.{ltb-true, ltb-false, eqb-true, eqb-false}
 use Rattle.laws.specs.Below.{either}
-use Rattle.laws.specs.Lists.{Bytes}
+use Rattle.laws.specs.Lists.{zeroPast, Bytes}
 use Rattle.stored.specs.Layout.{limits}
 use Rattle.check_refusals.specs.Tables.{tablesOf, allRecords, isLeaf, pieceAt}
 use Rattle.check_refusals.specs.Check.{checkOf}
@@ -91,7 +91,7 @@ module _ (s : List ℕ) (b : Bytes s) where
 
   -- So a buffer of that size never gets 20, and the text that it is told the length of is the whole listing.
   module _ (room : ℕ) (enough : largestListing ≤ room) where
-    whole : (listNumber s room ≡ listedNumber s) × (listLength s room ≡ length (listingOf s)) × (listBytes s room ≡ listingOf s ++ replicate (room - length (listingOf s)) 0)
+    whole : (listNumber s room ≡ listedNumber s) × (listLength s room ≡ length (listingOf s)) × (listBytes s room ≡ zeroPast room (listingOf s))
     whole = list-whole s room (omega (arith, listing-at-most))
 
     pub never-20 : listNumber s room ≢ 20

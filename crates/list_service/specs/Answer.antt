@@ -2,18 +2,19 @@
 use mathlib.Core.Path.{_≡_, refl, sym}
 use mathlib.Core.Bool.{Bool, true, false, cond}
 use mathlib.Core.Logic.{_⊎_, inl, inr}
-use mathlib.Core.List.{List, _++_}
-use Prim.Native.Nat.{ℕ, _-_, _≤_, _<_}
+use mathlib.Core.List.{List}
+use Prim.Native.Nat.{ℕ, _≤_, _<_}
 use native.Mathlib.Omega.{arith}
 use lib.ListN.{length, replicate}
 use lib.Dec.{eqb}
 use borrow.Author.Tests.{eqb-true, eqb-false, lt-ltb, le-ltb}
+use Rattle.laws.specs.Lists.{zeroPast}
 use Rattle.list_service.specs.Listing.{listingOf, listedNumber, listNumber, listLength, listBytes}
 
 module _ (s : List ℕ) (room : ℕ) where
   -- A buffer that holds the listing: the mesh's own number, the listing and zeros past it.
   pub list-whole : length (listingOf s) ≤ room →
-      (listNumber s room ≡ listedNumber s) × (listLength s room ≡ length (listingOf s)) × (listBytes s room ≡ listingOf s ++ replicate (room - length (listingOf s)) 0)
+      (listNumber s room ≡ listedNumber s) × (listLength s room ≡ length (listingOf s)) × (listBytes s room ≡ zeroPast room (listingOf s))
   unfolding listNumber listLength listBytes
   list-whole fits = rw (le-ltb room (length (listingOf s)) fits) (own (listedNumber s) (eqb (listedNumber s) 0) (eqb-true (listedNumber s) 0), refl, refl)
     where

@@ -1,11 +1,11 @@
 -- Document 01, "The listing": what it says, line by line, and what list answers, for every byte string and every length of the output buffer.
 use mathlib.Core.Path.{_≡_, sym, _∙_}
 use mathlib.Core.Bool.{cond}
-use Prim.Native.Nat.{ℕ, zero, suc, _+_, _-_, _*_}
+use Prim.Native.Nat.{ℕ, zero, suc, _+_, _*_}
 use mathlib.Core.List.{List, [], _∷_, _++_}
 use lib.ListN.{length, replicate}
 use lib.Dec.{ltb, eqb}
-use Rattle.laws.specs.Lists.{joined}
+use Rattle.laws.specs.Lists.{zeroPast, joined}
 use Rattle.stored.specs.Layout.{limits, meshLength}
 use Rattle.check_refusals.specs.declared.Report.{Report}
 use Rattle.check_refusals.specs.Tables.{Tables, tablesOf, allRecords, isLeaf, pieceAt}
@@ -63,7 +63,7 @@ listLength s room = let long = length (listingOf s) in cond (ltb room long) 0 lo
 unfoldable pub listBytes : List ℕ → ℕ → List ℕ
 listBytes s room =
     let text = listingOf s in
-    let whole = text ++ replicate (room - length text) 0 in
+    let whole = zeroPast room text in
     cond (ltb room (length text)) (replicate room 0) whole
 
 -- "Each public function states one outcome for each input: number, counts and all bytes of the output, refused or not."

@@ -2,11 +2,11 @@
 -- the demands' pages.
 use mathlib.Core.Path.{_≡_, sym, _∙_, subst, subst₂}
 use mathlib.Core.Logic.{_↔_, _≢_}
-use mathlib.Core.List.{List, _++_}
-use Prim.Native.Nat.{ℕ, _-_, _≤_, _<_}
-use lib.ListN.{length, getD, replicate}
+use mathlib.Core.List.{List}
+use Prim.Native.Nat.{ℕ, _≤_, _<_}
+use lib.ListN.{length, getD}
 use lib.IntN.{ℤ, pos}
-use Rattle.laws.specs.Lists.{Bytes}
+use Rattle.laws.specs.Lists.{zeroPast, Bytes}
 use Rattle.stored.specs.Layout.{selectionOf}
 use Rattle.check_refusals.specs.declared.Report.{Report}
 use Rattle.check_refusals.specs.Tables.{tablesOf}
@@ -83,7 +83,7 @@ pub record RefinePromise (mesh selection : List ℕ) (room number : ℕ) (out : 
   pub good : number ≡ 0 → (x : StoredMesh mesh) → GoodFor x selection
   -- demand 2: from a stored mesh and a good selection, accepted exactly where the closed result fits, and that result, to the byte
   pub exactly : (x : StoredMesh mesh) → GoodFor x selection → (number ≡ 0) ↔ ClosedFits mesh selection room
-  pub closing : (x : StoredMesh mesh) → GoodFor x selection → number ≡ 0 → out ≡ closedBytes mesh selection ++ replicate (room - length (closedBytes mesh selection)) 0
+  pub closing : (x : StoredMesh mesh) → GoodFor x selection → number ≡ 0 → out ≡ zeroPast room (closedBytes mesh selection)
   -- demand 3
   pub least-or-full : (x : StoredMesh mesh) → GoodFor x selection → fullSize ≤ room → LeastOrFullFrom x selection number out room
   -- request thirteen

@@ -2,10 +2,11 @@
 use mathlib.Core.Path.{_≡_, refl, sym, ap, _∙_}
 use mathlib.Core.Bool.{true, false}
 use mathlib.Core.List.{List, _++_}
-use Prim.Native.Nat.{ℕ, _+_, _-_, _≤_}
-use lib.ListN.{length, replicate}
+use Prim.Native.Nat.{ℕ, _+_, _≤_}
+use lib.ListN.{replicate}
 use lib.Dec.{eqb, leb}
 use borrow.Author.Tests.{leb-true}
+use Rattle.laws.specs.Lists.{zeroPast}
 use Rattle.laws.specs.Order.{given-passes}
 use Rattle.stored.specs.Layout.{limits, headerOf, meshBytes, rightSelectionLength, rightSelectionMark, selectionOf, namedIn}
 use Rattle.check_refusals.specs.Tables.{tablesOf}
@@ -31,7 +32,7 @@ module _ (mesh selection : List ℕ) (room : ℕ) where
 
   -- "after acceptance it is zero past the result."
   pub accepted-bytes : refineNumber mesh selection room ≡ 0 →
-      refineBytes mesh selection room ≡ meshBytes (resultOf (closed mesh selection)) ++ replicate (room - length (meshBytes (resultOf (closed mesh selection)))) 0
+      refineBytes mesh selection room ≡ zeroPast room (meshBytes (resultOf (closed mesh selection)))
   unfolding refineBytes
   accepted-bytes e = rw e
 

@@ -1,10 +1,9 @@
 -- What refine answers, for every stored mesh, every selection and every length of the output buffer.
 use mathlib.Core.Path.{_≡_, sym, _∙_}
-use mathlib.Core.Bool.{cond}
 use mathlib.Core.List.{List, [], _∷_, _++_}
-use Prim.Native.Nat.{ℕ, _+_, _-_}
-use lib.ListN.{length, replicate}
+use Prim.Native.Nat.{ℕ, _+_}
 use lib.Dec.{eqb, ltb}
+use Rattle.laws.specs.Lists.{outputOf}
 use Rattle.laws.specs.Below.{listBelow}
 use Rattle.laws.specs.Order.{Row, row, firstBroken}
 use Rattle.stored.specs.declared.Header.{Header}
@@ -65,10 +64,7 @@ refineNumber mesh selection room =
 
 -- "After a refusal the output buffer is zero throughout; after acceptance it is zero past the result."
 unfoldable pub refineBytes : List ℕ → List ℕ → ℕ → List ℕ
-refineBytes mesh selection room =
-    let bytes = meshBytes (resultOf (closed mesh selection)) in
-    let stored = bytes ++ replicate (room - length bytes) 0 in
-    cond (eqb (refineNumber mesh selection room) 0) stored (replicate room 0)
+refineBytes mesh selection room = outputOf (refineNumber mesh selection room) room (meshBytes (resultOf (closed mesh selection)))
 
 -- "Each public function states one outcome for each input: number, counts and all bytes of the output, refused or not."
 pub record RefineOutcomeIs (mesh selection : List ℕ) (room r : ℕ) (out : List ℕ) : Type 0 where

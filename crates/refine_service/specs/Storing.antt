@@ -3,13 +3,13 @@ use mathlib.Core.Path.{_≡_, refl, sym, ap, _∙_, subst}
 use mathlib.Core.Bool.{Bool, true, false, cond}
 use mathlib.Core.Logic.{_↔_}
 use mathlib.Core.List.{List, _++_}
-use Prim.Native.Nat.{ℕ, zero, suc, _+_, _-_, _*_, _≤_, _<_}
+use Prim.Native.Nat.{ℕ, zero, suc, _+_, _*_, _≤_, _<_}
 use native.Mathlib.Omega.{arith}
 use lib.ListN.{length, drop, replicate, length-replicate}
 use lib.Seq.{sets, length-sets}
 use lib.Dec.{eqb, lit<}
 use borrow.Author.Tests.{eqb-true, eqb-false, lt-ltb, le-ltb, not-false}
-use Rattle.laws.specs.Lists.{Bytes, bytes-none, bytes-cons, bytes-take, bytes-drop, bytes-sets, clear-with}
+use Rattle.laws.specs.Lists.{zeroPast, Bytes, bytes-none, bytes-cons, bytes-take, bytes-drop, bytes-sets, clear-with, outputOf}
 use Rattle.laws.specs.Numbers.{number-below}
 use Rattle.laws.specs.Order.{firstBroken, one-after-other, both-hold, none-broken}
 use Rattle.stored.specs.declared.Header.{Header}
@@ -34,10 +34,6 @@ use Rattle.refine_service.specs.Order.{selectionNumber, not-last}
 
 unfoldable pub storedNumber : Header → ℕ → ℕ
 storedNumber h room = firstBroken (resultRows h room)
-
--- The bytes and zeros past them, or zeros throughout.
-abbrev pub outputOf : ℕ → ℕ → List ℕ → List ℕ
-outputOf number room bytes = let stored = bytes ++ replicate (room - length bytes) 0 in cond (eqb number 0) stored (replicate room 0)
 
 unfoldable pub storedBytes : Header → List ℕ → List ℕ → ℕ → List ℕ
 storedBytes h vertices records room = outputOf (storedNumber h room) room (assembled (nextRound h) vertices records)
@@ -93,8 +89,8 @@ pub record Copied (h : Header) (mesh out : List ℕ) : Type 0 where
 same-output : (number room : ℕ) (a b : List ℕ) → (number ≡ 0 → a ≡ b) → outputOf number room a ≡ outputOf number room b
 same-output number room a b same = go (eqb number 0) (λ e. same (eqb-true number 0 e))
   where
-    go : (e : Bool) → (e ≡ true → a ≡ b) → cond e (a ++ replicate (room - length a) 0) (replicate room 0) ≡ cond e (b ++ replicate (room - length b) 0) (replicate room 0)
-    go true q = ap (λ (t : List ℕ). t ++ replicate (room - length t) 0) (q refl)
+    go : (e : Bool) → (e ≡ true → a ≡ b) → cond e (zeroPast room a) (replicate room 0) ≡ cond e (zeroPast room b) (replicate room 0)
+    go true q = ap (λ (t : List ℕ). zeroPast room t) (q refl)
     go false q = refl
 
 stored-few : (h : Header) (room : ℕ) → storedNumber h room ≡ 0 → exceeds limits h ≡ false
