@@ -19,7 +19,7 @@ use Rattle.stored.specs.declared.Record.{Record}
 use Rattle.stored.specs.Layout.{none, storedNone, limits}
 use Rattle.stored.specs.Fitting.{MeshFits, or-none-small}
 use Rattle.stored.specs.Meshes.{mesh-right-length, mesh-right-mark}
-use Rattle.check_refusals.specs.Tables.{Tables, tablesOf, baseVertices, allVertices, baseRecords, allRecords, pieceAt, isLeaf}
+use Rattle.mesh_tables.specs.Tables.{Tables, tablesOf, baseVertices, allVertices, baseRecords, allRecords, pieceAt, isLeaf}
 use Rattle.check_refusals.specs.Refusals.{wrongLength, wrongMark, wrongCounts, badVertices, badBaseRecords, badBaseFaces, unusedVertices}
 use Rattle.check_refusals.specs.Check.{checkNumber, leaves, leafGeneration, deepest, sixfold, reportOf, checkOf}
 use Rattle.check_meaning.specs.Tests.{equal}

@@ -9,7 +9,7 @@ use Rattle.grid.specs.Places.{coordinate, coordinateOnGrid, onGrid, samePlace}
 use Rattle.grid_lengths.specs.Lengths.{squaredLength, ranksBefore}
 use Rattle.grid_volume.specs.Volume.{minorOf, determinantOf, differenceOf, differencesOf, sixfoldOf}
 use Rattle.stored.specs.Layout.{meshBytes, headerBytes, markBytes, headerOf, heldIn, orNone, storedOrNone, vertexIn, vertexFrom, vertexBytes, recordIn, recordFrom, recordBytes}
-use Rattle.check_refusals.specs.Tables.{tablesOf, sixfoldAt}
+use Rattle.mesh_tables.specs.Tables.{tablesOf, sixfoldAt}
 use Rattle.check_refusals.specs.Refusals.{wrongCounts, badVertices, badVertex, badBaseVertex, placeTwice, badBaseRecords, badBaseRecord, badPiece, equalCorners, cornerNotInBase, badBaseFaces, badFaces, badWith, unusedVertices, unusedVertex, hasCorner}
 use Rattle.laws.specs.Order.{firstBroken}
 use Rattle.build_marks.specs.Marking.{plainPlace, plainVertex, plainPiece, rankOf, outranked, firstRanked, markedPiece, plainRecord}

@@ -18,7 +18,7 @@ use Rattle.stored.specs.Layout.{storedNone, orNone, meshLength, vertexFrom, ver
 use Rattle.stored.specs.Fitting.{U16, U32, VertexFits, RecordFits, Counted, MeshFits}
 use Rattle.stored.specs.Entries.{vertex-again, record-again, corner-read}
 use Rattle.stored.specs.Meshes.{mesh-header, mesh-vertex-bytes, mesh-record-bytes, mesh-length}
-use Rattle.check_refusals.specs.Tables.{Tables, tablesOf}
+use Rattle.mesh_tables.specs.Tables.{Tables, tablesOf}
 use Rattle.build_marks.specs.Marking.{placeFor, plainPlace, plainVertex, plainPiece, firstRanked, markedPiece, plainRecord}
 use Rattle.build_service.specs.Build.{plainHeader, plainMesh, plainBytes}
 

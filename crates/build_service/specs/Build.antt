@@ -11,7 +11,7 @@ use Rattle.laws.specs.Below.{listBelow}
 use Rattle.laws.specs.Order.{Row, row, firstBroken}
 use Rattle.stored.specs.declared.Header.{Header}
 use Rattle.stored.specs.Layout.{limits, Mesh, meshBytes}
-use Rattle.check_refusals.specs.Tables.{tablesOf}
+use Rattle.mesh_tables.specs.Tables.{tablesOf}
 use Rattle.check_refusals.specs.Refusals.{wrongCounts, badVertices, badBaseRecords, badBaseFaces, unusedVertices}
 use Rattle.build_marks.specs.Marking.{plainVertex, plainRecord}
 

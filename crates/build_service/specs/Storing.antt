@@ -23,7 +23,7 @@ use Rattle.stored.specs.Held.{into-base, not-into-base, into-growth, not-into-g
 use Rattle.stored.specs.Fitting.{U32, HeaderFits}
 use Rattle.stored.specs.Entries.{vertex-wide, record-wide}
 use Rattle.check_refusals.specs.Bounded.{Bounded}
-use Rattle.check_refusals.specs.Tables.{Tables, tablesOf}
+use Rattle.mesh_tables.specs.Tables.{Tables, tablesOf}
 use Rattle.check_refusals.specs.Refusals.{wrongCounts, badVertices, badBaseRecords, badBaseFaces, unusedVertices}
 use Rattle.check_refusals.specs.Bounded.{Bounded, bounded}
 use Rattle.build_marks.specs.Marking.{plainVertex, plainRecord}

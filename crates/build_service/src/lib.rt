@@ -6,7 +6,7 @@ ghost use mathlib.Core.Path.{_≡_};
 ghost use mathlib.Core.Bool.{false};
 ghost use lib.ListN.{length, replicate};
 ghost use Rattle.stored.specs.Layout.{limits, assembled};
-ghost use Rattle.check_refusals.specs.Tables.{tables};
+ghost use Rattle.mesh_tables.specs.Tables.{tables};
 ghost use Rattle.check_refusals.specs.Refusals.{wrongCounts};
 ghost use Rattle.check_refusals.specs.Bounded.{Bounded};
 ghost use Rattle.build_service.specs.Build.{notWhole, plainHeader, plainBytes, BuildOutcomeIs};

@@ -12,7 +12,7 @@ use Rattle.laws.specs.Below.{anyBelow, any-same, countBelow, bit, either}
 use Rattle.laws.specs.Links.{greatest, countedAt, counted-at, counted-other, counted-long}
 use Rattle.stored.specs.declared.Record.{Record}
 use Rattle.stored.specs.Layout.{limits}
-use Rattle.check_refusals.specs.Tables.{Tables, baseRecords, allRecords, pieceAt, uncut}
+use Rattle.mesh_tables.specs.Tables.{Tables, baseRecords, allRecords, pieceAt, uncut}
 use Rattle.check_refusals.specs.Bounded.{Room}
 use Rattle.check_refusals.specs.Refusals.{isChildOf, notChildOfOne, tooDeep, badCut, badRecord}
 use Rattle.laws.specs.Counts.{Counting, countsBelow, counts-is}

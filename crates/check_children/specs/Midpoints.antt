@@ -13,10 +13,10 @@ use Rattle.laws.specs.Below.{anyBelow, any-same, any-is, any-first, first-where
 use Rattle.laws.specs.Links.{countedAt, counted-long}
 use Rattle.piece.specs.declared.Ends.{Ends}
 use Rattle.stored.specs.Layout.{limits}
-use Rattle.check_refusals.specs.Tables.{Tables, baseVertices, allVertices, allRecords, pieceAt, isLeaf, isCut, hasParents, vertexWith, refinementEnds}
+use Rattle.mesh_tables.specs.Tables.{Tables, baseVertices, allVertices, allRecords, pieceAt, isLeaf, isCut, hasParents, vertexWith, refinementEnds}
 use Rattle.check_refusals.specs.Bounded.{Room}
 use Rattle.check_refusals.specs.Refusals.{isMidpointOf, noMidpoint}
-use Rattle.check_parents.specs.Pairs.{parentEnds, parents-are}
+use Rattle.mesh_parents.specs.Pairs.{parentEnds, parents-are}
 use Rattle.laws.specs.Counts.{countsBelow, marked, counted-marked, Marking, counts-zero}
 
 -- One more at the vertex halfway on record n's refinement edge, if the record is cut.

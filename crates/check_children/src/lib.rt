@@ -13,8 +13,8 @@ ghost use mathlib.Core.Bool.{false};
 ghost use Rattle.laws.specs.Below.{anyBelow};
 ghost use Rattle.piece.specs.Same.{samePiece};
 ghost use Rattle.stored.specs.Layout.{recordIn};
-ghost use Rattle.check_refusals.specs.Tables.{tables, vertexWith, refinementEnds};
-ghost use Rattle.check_parents.specs.Pairs.{Linked};
+ghost use Rattle.mesh_tables.specs.Tables.{tables, vertexWith, refinementEnds};
+ghost use Rattle.mesh_parents.specs.Pairs.{Linked};
 ghost use Rattle.check_refusals.specs.Bounded.{orBeyond, Room};
 ghost use Rattle.check_refusals.specs.Refusals.{
   badChildren,
@@ -40,7 +40,7 @@ fn vertex_with<'a>(
     requires { ⌜ Linked (tables h l (now base) (now grown)) (now heads) (now nexts) ⌝ }
     ensures { λ r. ⌜ r ≡ vertexWith (tables h l (now (base .entry)) (now (grown .entry))) ends ⌝ }
 {
-    check_parents::first_with(h, l, base, grown, heads, nexts, ends)
+    mesh_parents::first_with(h, l, base, grown, heads, nexts, ends)
 }
 
 // ---- records
@@ -102,7 +102,7 @@ fn bad_cut<'a>(
     ensures { λ b. ⌜ b ≡ badCut (tables h l (now (base .entry)) (now (grown .entry))) n ⌝ }
     ensures { λ _. ⌜ now (midpoints .exit) ≡ midpointCounted (tables h l (now (base .entry)) (now (grown .entry))) (now (midpoints .entry)) n ⌝ }
 {
-    if check_refusals::is_leaf(l, base, grown, n) {
+    if mesh_tables::is_leaf(l, base, grown, n) {
         return false;
     }
     let record = stored_entries::record_in(l, base, grown, n);
@@ -286,10 +286,10 @@ pub fn bad_cuts<'a>(h: Header, l: Layout, base: &'a [u8], grown: &'a [u8]) -> bo
     if check_refusals::is_beyond(h) {
         return true;
     }
-    let mut heads = [0u16; check_parents::PAIR_HEADS];
+    let mut heads = [0u16; mesh_parents::PAIR_HEADS];
     let mut nexts = [0u16; stored::VERTICES];
     let mut midpoints = [0u16; stored::VERTICES];
-    check_parents::link_pairs(h, l, base, grown, &mut heads, &mut nexts);
+    mesh_parents::link_pairs(h, l, base, grown, &mut heads, &mut nexts);
     if bad_records(&mut midpoints, h, l, base, grown, &heads, &nexts) {
         return true;
     }

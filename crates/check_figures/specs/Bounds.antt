@@ -15,7 +15,7 @@ use Rattle.grid_volume.specs.VolumeLaws.{sixfold-within}
 use Rattle.stored.specs.declared.Layout.{Layout}
 use Rattle.stored.specs.declared.Record.{Record}
 use Rattle.stored.specs.Layout.{limits, vertexIn, vertexFrom}
-use Rattle.check_refusals.specs.Tables.{Tables, allRecords, uncut, sixfoldAt}
+use Rattle.mesh_tables.specs.Tables.{Tables, allRecords, uncut, sixfoldAt}
 use Rattle.check_refusals.specs.Check.{leafSixfold, sixfold}
 use Rattle.grid.specs.Places.{greatestPlace}
 

@@ -5,7 +5,7 @@ ghost use mathlib.Core.Path.{_≡_};
 ghost use Prim.Native.Nat.{max, _≤_};
 ghost use Rattle.laws.specs.Below.{bit};
 ghost use Rattle.stored.specs.Layout.{limits, vertexIn, recordIn};
-ghost use Rattle.check_refusals.specs.Tables.{tables};
+ghost use Rattle.mesh_tables.specs.Tables.{tables};
 ghost use Rattle.check_figures.specs.Bounds.{sixfoldWithin};
 ghost use Rattle.check_refusals.specs.Check.{leaves, leafGeneration, deepest, leafSixfold, sixfold};
 
@@ -22,7 +22,7 @@ pub fn leaves_of<'a>(h: Header, l: Layout, base: &'a [u8], grown: &'a [u8]) -> u
     let mut n: usize = 0;
     let mut total: u64 = 0;
     while n < count {
-        total += one_if(check_refusals::is_leaf(l, base, grown, n));
+        total += one_if(mesh_tables::is_leaf(l, base, grown, n));
         n += 1;
     }
     total
@@ -31,7 +31,7 @@ pub fn leaves_of<'a>(h: Header, l: Layout, base: &'a [u8], grown: &'a [u8]) -> u
 fn leaf_generation<'a>(l: Layout, base: &'a [u8], grown: &'a [u8], n: usize) -> u64
     ensures { λ r. ⌜ r ≡ leafGeneration (recordIn l (now (base .entry)) (now (grown .entry)) n) ⌝ }
 {
-    if check_refusals::is_leaf(l, base, grown, n) {
+    if mesh_tables::is_leaf(l, base, grown, n) {
         return stored_entries::generation_in(l, base, grown, n) as u64;
     }
     0
@@ -59,9 +59,9 @@ pub fn deepest_of<'a>(h: Header, l: Layout, base: &'a [u8], grown: &'a [u8]) -> 
 fn leaf_sixfold<'a>(l: Layout, base: &'a [u8], grown: &'a [u8], n: usize) -> u64
     ensures { λ r. ⌜ r ≡ leafSixfold (vertexIn l (now (base .entry)) (now (grown .entry))) (recordIn l (now (base .entry)) (now (grown .entry)) n) ⌝ }
 {
-    if check_refusals::is_leaf(l, base, grown, n) {
+    if mesh_tables::is_leaf(l, base, grown, n) {
         let corners = stored_entries::corners_in(l, base, grown, n);
-        return check_refusals::sixfold_between(l, base, grown, corners);
+        return mesh_tables::sixfold_between(l, base, grown, corners);
     }
     0
 }

@@ -7,7 +7,7 @@ ghost use lib.ListN.{getD};
 ghost use Rattle.laws.specs.Below.{anyBelow};
 ghost use Rattle.piece.specs.Shape.{markFits};
 ghost use Rattle.stored.specs.Layout.{recordIn};
-ghost use Rattle.check_refusals.specs.Tables.{tables};
+ghost use Rattle.mesh_tables.specs.Tables.{tables};
 ghost use Rattle.check_refusals.specs.Refusals.{badMarks, badBaseMarks};
 
 fn bad_mark_in(edge: u8, marks: [u8; 4]) -> bool

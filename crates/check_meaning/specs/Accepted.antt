@@ -17,7 +17,7 @@ use Rattle.grid.specs.Places.{Point, pointOf}
 use Rattle.grid.specs.Corners.{Midpoint}
 use Rattle.stored.specs.declared.Limits.{Limits}
 use Rattle.stored.specs.Layout.{none, limits, headerWidth, meshLength, byteAt, u16At}
-use Rattle.check_refusals.specs.Tables.{Tables, tablesOf, baseVertices, allVertices, baseRecords, allRecords, pieceAt, refinementEnds, sixfoldAt}
+use Rattle.mesh_tables.specs.Tables.{Tables, tablesOf, baseVertices, allVertices, baseRecords, allRecords, pieceAt, refinementEnds, sixfoldAt}
 
 -- ---- 1 and 2: the bytes
 

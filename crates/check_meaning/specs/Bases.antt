@@ -10,7 +10,7 @@ use Rattle.piece.specs.declared.Piece.{Piece}
 use Rattle.piece_edges.specs.Edges.{lowSlot, highSlot, slots-small, hasSlot, onFace}
 use Rattle.piece.specs.Shape.{Shape, shapeOf, mark, markFits, flagFits, validShape, Valid}
 use Rattle.piece.specs.Ends.{cornerAt}
-use Rattle.check_refusals.specs.Tables.{Tables, baseVertices, baseRecords, pieceAt, sixfoldAt}
+use Rattle.mesh_tables.specs.Tables.{Tables, baseVertices, baseRecords, pieceAt, sixfoldAt}
 use Rattle.check_refusals.specs.Refusals.{equalCorners, cornerNotInBase, badPiece, badBaseRecord, badBaseRecords, badMarks, badBaseMarks}
 use Rattle.check_meaning.specs.Tests.{Passes, Fails, reads, equal, below, not-below, not-at-most, not-fails, not-passes, fails-unless, and-passes, implies-passes, or-passes, or-fails, all-pass, any-passes, none-passes}
 use Rattle.check_meaning.specs.Accepted.{BaseRecord, RightBaseRecords, EdgeOf, RightMarks, RightBaseMarks}

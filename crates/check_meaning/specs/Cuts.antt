@@ -12,8 +12,8 @@ use Rattle.piece.specs.Ends.{endsOf, lowerEnd, higherEnd}
 use Rattle.piece.specs.Same.{samePiece, same-piece-is, same-piece-refl}
 use Rattle.piece_cut.specs.Cut.{childShape, childOf, cutOf}
 use Rattle.stored.specs.Layout.{none, recordIn, recordFrom}
-use Rattle.check_refusals.specs.Tables.{Tables, tablesOf, baseVertices, allVertices, baseRecords, allRecords, pieceAt, isCut, hasParents, vertexWith, hangs, refinementEnds}
-use Rattle.check_refusals.specs.Refusals.{badChildren, badCut, isChildOf, notChildOfOne, tooDeep, badRecord, isMidpointOf, noMidpoint, badCuts, hangsAt, leafHangs, hangingEdge}
+use Rattle.mesh_tables.specs.Tables.{Tables, tablesOf, baseVertices, allVertices, baseRecords, allRecords, pieceAt, isCut, hasParents, vertexWith, hangs, refinementEnds, hangsAt, leafHangs, hangingEdge}
+use Rattle.check_refusals.specs.Refusals.{badChildren, badCut, isChildOf, notChildOfOne, tooDeep, badRecord, isMidpointOf, noMidpoint, badCuts}
 use Rattle.check_meaning.specs.Tests.{Passes, Fails, reads, equal, at-most, not-at-most, not-below, not-fails, not-passes, fails-unless, and-passes, and-fails, or-passes, or-fails, any-passes, none-passes, first-passes}
 use Rattle.check_meaning.specs.Accepted.{Made, HasParents, RightVertices, Leaf, Cut, firstChild, RightCut, ChildOf, ExactlyOne, RightCuts, NoneHangs}
 use Rattle.check_meaning.specs.Counting.{one-counted}

@@ -15,7 +15,7 @@ use Rattle.piece.specs.Shape.{shapeOf, Valid}
 use Rattle.piece.specs.Ends.{cornerAt, lowerEnd, higherEnd}
 use Rattle.piece_cut.specs.Cut.{childOf, cutOf}
 use Rattle.piece_cut.specs.Theorems.{End, child-is-valid}
-use Rattle.check_refusals.specs.Tables.{Tables, allVertices, baseRecords, allRecords, pieceAt}
+use Rattle.mesh_tables.specs.Tables.{Tables, allVertices, baseRecords, allRecords, pieceAt}
 use Rattle.check_meaning.specs.Tests.{equal, or-passes}
 use Rattle.check_meaning.specs.Accepted.{RightMesh, RightCut, ChildOf, RightCuts}
 use Rattle.check_meaning.specs.Bases.{marks-valid}

@@ -8,7 +8,7 @@ use Rattle.laws.specs.Below.{either}
 use Rattle.piece.specs.declared.Piece.{Piece}
 use Rattle.piece.specs.declared.Ends.{Ends}
 use Rattle.piece.specs.Ends.{cornerAt}
-use Rattle.check_refusals.specs.Tables.{Tables, baseVertices, baseRecords, pieceAt}
+use Rattle.mesh_tables.specs.Tables.{Tables, baseVertices, baseRecords, pieceAt}
 use Rattle.check_refusals.specs.Refusals.{hasCorner, faceHas, faceWithin, sameFace, sameEnds, sameMark, cornersWithin, sameCorners, twoMarksOn, twoMarks, hasFace, faceBefore, faceInThree, badTogether, badWith, badFaces, badBaseFaces, unusedVertex, unusedVertices}
 use Rattle.check_meaning.specs.Tests.{Passes, Fails, reads, equal, not-fails, not-passes, fails-unless, and-passes, and-fails, or-passes, or-fails, all-pass, any-passes, none-passes}
 use Rattle.check_meaning.specs.Accepted.{CornerOf, OnFace, SameCorners, SameFace, markedEnds, RightFaces, RightUses}

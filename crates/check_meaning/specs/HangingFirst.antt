@@ -10,8 +10,7 @@ use borrow.Author.Tests.{ltb-true, ltb-false}
 use Rattle.laws.specs.Below.{either, anyBelow, any-is, any-fails-at, firstBelow, first-where}
 use Rattle.piece.specs.Ends.{endsOf}
 use Rattle.stored.specs.Layout.{none}
-use Rattle.check_refusals.specs.Tables.{Tables, tablesOf, allVertices, allRecords, pieceAt, hangs}
-use Rattle.check_refusals.specs.Refusals.{hangsAt, leafHangs, hangingEdge}
+use Rattle.mesh_tables.specs.Tables.{Tables, tablesOf, allVertices, allRecords, pieceAt, hangs, hangsAt, leafHangs, hangingEdge}
 use Rattle.check_refusals.specs.Check.{checkNumber, firstHanging, hangingReport, reportOf, checkOf}
 use Rattle.check_refusals.specs.Rows.{report-number}
 use Rattle.check_meaning.specs.Tests.{Passes, reads, equal, and-passes, any-passes}

@@ -4,7 +4,7 @@ use Prim.Native.Nat.{ℕ}
 use lib.ListN.{length}
 use Rattle.stored.specs.declared.Limits.{Limits}
 use Rattle.stored.specs.Layout.{headerWidth, meshLength, byteAt, u16At, allVertices, allRecords, marked, rightMark, rightLength, headerOf}
-use Rattle.check_refusals.specs.Tables.{tablesOf}
+use Rattle.mesh_tables.specs.Tables.{tablesOf}
 use Rattle.check_refusals.specs.Refusals.{wrongLength, wrongMark, wrongCounts}
 use Rattle.check_meaning.specs.Tests.{Fails, reads, equal, at-most, not-below, not-fails, and-passes, or-fails}
 use Rattle.check_meaning.specs.Accepted.{RightLength, RightMark, Within, RightCounts}

@@ -7,7 +7,7 @@ use Rattle.piece.specs.declared.Ends.{Ends}
 use Rattle.grid.specs.Places.{pointOf, coordinateOnGrid, onGrid}
 use Rattle.grid.specs.GridTheorems.{on-grid-exactly, same-place-exactly, place-once, halfway-exactly}
 use Rattle.stored.specs.Layout.{none}
-use Rattle.check_refusals.specs.Tables.{Tables, baseVertices, allVertices, hasParents}
+use Rattle.mesh_tables.specs.Tables.{Tables, baseVertices, allVertices, hasParents}
 use Rattle.check_refusals.specs.Refusals.{badBaseVertex, placeTwice, badMadeVertex, pairTwice, badVertex, badVertices}
 use Rattle.check_meaning.specs.Tests.{Passes, Fails, reads, equal, below, not-below, at-most, not-fails, fails-unless, and-passes, or-fails, cond-fails, none-passes}
 use Rattle.check_meaning.specs.Accepted.{OnGrid, BaseVertex, MadeVertex, RightVertices, HasParents, pointAt, parentP, parentQ}

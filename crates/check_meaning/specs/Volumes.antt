@@ -15,7 +15,7 @@ use Rattle.grid_volume.specs.Volume.{sixfoldOf}
 use Rattle.grid.specs.Corners.{Midpoint}
 use Rattle.grid_volume.specs.VolumeTheorems.{half-sixfold, sixfold-kept}
 use Rattle.stored.specs.Layout.{none}
-use Rattle.check_refusals.specs.Tables.{Tables, baseRecords, allRecords, pieceAt, isLeaf, cornerPoint, sixfoldAt}
+use Rattle.mesh_tables.specs.Tables.{Tables, baseRecords, allRecords, pieceAt, isLeaf, cornerPoint, sixfoldAt}
 use Rattle.check_refusals.specs.Refusals.{isChildOf}
 use Rattle.check_refusals.specs.Check.{leafSixfold, sixfold}
 use Rattle.check_meaning.specs.Tests.{fails-unless}

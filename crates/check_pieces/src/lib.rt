@@ -6,7 +6,7 @@ ghost use lib.ListN.{getD};
 ghost use lib.Dec.{eqb, leb};
 ghost use Rattle.laws.specs.Below.{anyBelow};
 ghost use Rattle.piece_edges.specs.Edges.{lowSlot, highSlot};
-ghost use Rattle.check_refusals.specs.Tables.{tables};
+ghost use Rattle.mesh_tables.specs.Tables.{tables};
 ghost use Rattle.check_refusals.specs.Refusals.{badBaseRecord, badBaseRecords};
 
 // The ends of the six edges, one edge after the other.
@@ -58,7 +58,7 @@ fn bad_base_record<'a>(h: Header, l: Layout, base: &'a [u8], grown: &'a [u8], n:
     if corner_not_in_base(h.base_vertices, corners) {
         return true;
     }
-    if check_refusals::sixfold_between(l, base, grown, corners) == 0 {
+    if mesh_tables::sixfold_between(l, base, grown, corners) == 0 {
         return true;
     }
     if stored_entries::generation_in(l, base, grown, n) != 0 {

@@ -15,9 +15,9 @@ use Rattle.grid.specs.declared.Place.{Place}
 use Rattle.grid.specs.Places.{samePlace}
 use Rattle.stored.specs.declared.Vertex.{Vertex}
 use Rattle.stored.specs.Layout.{limits}
-use Rattle.check_refusals.specs.Tables.{Tables, baseVertices, hasParents}
+use Rattle.mesh_tables.specs.Tables.{Tables, baseVertices, hasParents}
 use Rattle.check_refusals.specs.Refusals.{placeTwice, pairTwice}
-use Rattle.check_parents.specs.Pairs.{pairHeads, pairKey, parentEnds, keyOf, any-with-is}
+use Rattle.mesh_parents.specs.Pairs.{pairHeads, pairKey, parentEnds, keyOf, any-with-is}
 
 -- How many keys places have. It is prime, so that places that are far apart on the grid have keys of their own too.
 abbrev pub placeHeads : ℕ

@@ -9,10 +9,10 @@ ghost use mathlib.Core.Path.{_≡_};
 ghost use Rattle.laws.specs.Links.{linksOf, pushed};
 ghost use Rattle.grid.specs.Places.{samePlace};
 ghost use Rattle.stored.specs.Layout.{vertexIn};
-ghost use Rattle.check_refusals.specs.Tables.{tables};
+ghost use Rattle.mesh_tables.specs.Tables.{tables};
 ghost use Rattle.check_refusals.specs.Refusals.{badBaseVertex, badMadeVertex, pairTwice, badVertex, badVertices};
 ghost use Rattle.check_refusals.specs.Bounded.{Room, orBeyond};
-ghost use Rattle.check_parents.specs.Pairs.{pairHeads, keyOf};
+ghost use Rattle.mesh_parents.specs.Pairs.{pairHeads, keyOf};
 ghost use Rattle.check_places.specs.Kept.{placeHeads, placeKey, placeKeyOf, VerticesKept, placeAlong};
 
 // How many keys places have: a prime, so that places that are far apart on the grid have keys of their own too.
@@ -106,8 +106,8 @@ fn pair_twice<'a>(
         lower: parents.p,
         higher: parents.q,
     };
-    let head = check_parents::head_of(heads, ends);
-    check_parents::any_from(h, l, base, grown, nexts, v, ends, head)
+    let head = mesh_parents::head_of(heads, ends);
+    mesh_parents::any_from(h, l, base, grown, nexts, v, ends, head)
 }
 
 // Vertex v, where those before it are linked.
@@ -174,7 +174,7 @@ fn bad_within<'a>(h: Header, l: Layout, base: &'a [u8], grown: &'a [u8]) -> bool
 {
     let mut place_heads = [0u16; PLACE_HEADS];
     let mut place_nexts = [0u16; stored::VERTICES];
-    let mut pair_heads = [0u16; check_parents::PAIR_HEADS];
+    let mut pair_heads = [0u16; mesh_parents::PAIR_HEADS];
     let mut pair_nexts = [0u16; stored::VERTICES];
     let count = h.vertices as usize;
     let mut v: usize = 0;
@@ -193,7 +193,7 @@ fn bad_within<'a>(h: Header, l: Layout, base: &'a [u8], grown: &'a [u8]) -> bool
             return true;
         }
         link_place(h, l, base, grown, &mut place_heads, &mut place_nexts, v);
-        check_parents::link_vertex(h, l, base, grown, &mut pair_heads, &mut pair_nexts, v);
+        mesh_parents::link_vertex(h, l, base, grown, &mut pair_heads, &mut pair_nexts, v);
         v += 1;
     }
     false

@@ -10,8 +10,8 @@ use Rattle.stored.specs.declared.Vertex.{Vertex}
 use Rattle.stored.specs.declared.Record.{Record}
 use Rattle.stored.specs.Layout.{limits, headerOf}
 use Rattle.check_refusals.specs.declared.Report.{Report}
-use Rattle.check_refusals.specs.Tables.{Tables, tablesOf, allRecords, uncut, isLeaf, sixfoldAt}
-use Rattle.check_refusals.specs.Refusals.{wrongLength, wrongMark, wrongCounts, badVertices, badBaseRecords, badBaseMarks, badBaseFaces, unusedVertices, badCuts, hangsAt, leafHangs, hangingEdge}
+use Rattle.mesh_tables.specs.Tables.{Tables, tablesOf, allRecords, uncut, isLeaf, sixfoldAt, hangsAt, leafHangs, hangingEdge}
+use Rattle.check_refusals.specs.Refusals.{wrongLength, wrongMark, wrongCounts, badVertices, badBaseRecords, badBaseMarks, badBaseFaces, unusedVertices, badCuts}
 
 -- Refusals 4 to 10, of the tables.
 unfoldable pub tableRows : Tables → List Row

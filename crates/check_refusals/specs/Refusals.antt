@@ -17,7 +17,7 @@ use Rattle.stored.specs.declared.Header.{Header}
 use Rattle.stored.specs.declared.Vertex.{Vertex}
 use Rattle.stored.specs.declared.Record.{Record}
 use Rattle.stored.specs.Layout.{none, rightLength, rightMark}
-use Rattle.check_refusals.specs.Tables.{Tables, baseVertices, allVertices, baseRecords, allRecords, pieceAt, uncut, isLeaf, isCut, hasParents, vertexWith, hangs, refinementEnds, sixfoldAt}
+use Rattle.mesh_tables.specs.Tables.{Tables, baseVertices, allVertices, baseRecords, allRecords, pieceAt, uncut, isCut, hasParents, vertexWith, refinementEnds, sixfoldAt}
 
 -- ---- 1: "under 20 bytes, or length is not 20 + 10·vertices + 17·records"
 
@@ -211,14 +211,4 @@ noMidpoint m v = leb (baseVertices m) v && not (anyBelow (allRecords m) (isMidpo
 unfoldable pub badCuts : Tables → Bool
 badCuts m = anyBelow (allRecords m) (badRecord m) || anyBelow (allVertices m) (noMidpoint m)
 
--- ---- 10: "a hanging edge"
-
--- Edge e of record n hangs.
-unfoldable pub hangsAt : Tables → ℕ → ℕ → Bool
-hangsAt m n e = isLeaf m n && hangs m (endsOf (pieceAt m n) e)
-
-unfoldable pub leafHangs : Tables → ℕ → Bool
-leafHangs m n = anyBelow 6 (hangsAt m n)
-
-unfoldable pub hangingEdge : Tables → Bool
-hangingEdge m = anyBelow (allRecords m) (leafHangs m)
+-- ---- 10: "a hanging edge": `hangingEdge` of `mesh_tables/specs/Tables`

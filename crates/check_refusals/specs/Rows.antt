@@ -5,7 +5,7 @@ use Prim.Native.Nat.{ℕ, _≤_}
 use lib.Dec.{leb}
 use borrow.Author.Tests.{leb-true}
 use Rattle.laws.specs.Order.{given-passes, in-turn}
-use Rattle.check_refusals.specs.Tables.{tablesOf}
+use Rattle.mesh_tables.specs.Tables.{tablesOf}
 use Rattle.check_refusals.specs.Check.{rows, tableRows, checkNumber, reportOf, checkOf}
 
 pub check-small : (s : List ℕ) → checkNumber s ≤ 10

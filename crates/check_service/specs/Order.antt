@@ -6,7 +6,7 @@ use Prim.Native.Nat.{ℕ}
 use Rattle.laws.specs.Order.{firstBroken, in-turn}
 use Rattle.stored.specs.Layout.{limits, headerOf, rightLength, rightMark}
 use Rattle.check_hanging.specs.Hanging.{foundOf, reported, found-reported}
-use Rattle.check_refusals.specs.Tables.{Tables, tablesOf}
+use Rattle.mesh_tables.specs.Tables.{Tables, tablesOf}
 use Rattle.check_refusals.specs.declared.Report.{Report}
 use Rattle.check_refusals.specs.Refusals.{wrongLength, wrongMark, wrongCounts, badVertices, badBaseRecords, badBaseMarks, badBaseFaces, unusedVertices, badCuts}
 use Rattle.check_refusals.specs.Check.{tableRows, rows, checkNumber, refusedWith, reportOf, checkOf}

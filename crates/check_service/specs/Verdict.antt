@@ -8,7 +8,7 @@ use lib.Dec.{eqb}
 use borrow.Author.Tests.{ne-eqb}
 use Rattle.laws.specs.Order.{none-broken}
 use Rattle.stored.specs.Layout.{headerOf}
-use Rattle.check_refusals.specs.Tables.{tablesOf}
+use Rattle.mesh_tables.specs.Tables.{tablesOf}
 use Rattle.check_refusals.specs.declared.Report.{Report}
 use Rattle.check_refusals.specs.Bounded.{Bounded, bounded}
 use Rattle.check_refusals.specs.Rows.{report-number}

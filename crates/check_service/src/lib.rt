@@ -5,7 +5,7 @@ use stored::Header;
 use stored::Layout;
 use stored::Limits;
 ghost use mathlib.Core.Path.{_≡_};
-ghost use Rattle.check_refusals.specs.Tables.{tables};
+ghost use Rattle.mesh_tables.specs.Tables.{tables};
 ghost use Rattle.check_refusals.specs.Refusals.{wrongCounts};
 ghost use Rattle.check_refusals.specs.Check.{refusedWith, accepted, CheckOutcomeIs};
 ghost use Rattle.check_refusals.specs.Bounded.{Bounded};

@@ -11,7 +11,7 @@ use Rattle.laws.specs.Counts.{countsBelow, marked, counted-marked, Marking, cou
 use Rattle.piece.specs.declared.Piece.{Piece}
 use Rattle.piece.specs.Ends.{cornerAt}
 use Rattle.stored.specs.Layout.{limits}
-use Rattle.check_refusals.specs.Tables.{Tables, pieceAt, baseRecords}
+use Rattle.mesh_tables.specs.Tables.{Tables, pieceAt, baseRecords}
 use Rattle.check_refusals.specs.Refusals.{hasCorner, unusedVertex}
 
 -- One use more of each of a piece's four corners.

@@ -4,7 +4,7 @@ use stored::Layout;
 ghost use mathlib.Core.Path.{_≡_};
 ghost use Rattle.laws.specs.Counts.{countsBelow};
 ghost use Rattle.stored.specs.Layout.{recordIn};
-ghost use Rattle.check_refusals.specs.Tables.{tables};
+ghost use Rattle.mesh_tables.specs.Tables.{tables};
 ghost use Rattle.check_refusals.specs.Refusals.{unusedVertices};
 ghost use Rattle.check_refusals.specs.Bounded.{Room, orBeyond};
 ghost use Rattle.check_uses.specs.Uses.{usedBy};

@@ -22,7 +22,7 @@ use lib.IntN.{ℤ}
 use lib.Dec.{ltb}
 use borrow.Author.Tests.{ltb-true, ltb-false}
 use Rattle.laws.specs.Below.{either}
-use Rattle.check_refusals.specs.Tables.{tablesOf}
+use Rattle.mesh_tables.specs.Tables.{tablesOf}
 use Rattle.laws.specs.Lists.{zeroPast, Bytes}
 use Rattle.laws.specs.Order.{OneOf}
 use Rattle.stored.specs.Layout.{limits, meshLength, headerOf, Mesh, meshBytes}

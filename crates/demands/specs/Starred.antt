@@ -12,7 +12,7 @@ use Rattle.piece.specs.Shape.{Shape, Valid, shapeOf, typeP, typeA, typeO, typeM
 use Rattle.piece_cut.specs.Cut.{childShape, cutOf}
 use Rattle.piece_cut.specs.Theorems.{End, unset-P-gives-set-P, set-P-gives-A, others-give-unset-P}
 use Rattle.grid.specs.Places.{pointOf}
-use Rattle.check_refusals.specs.Tables.{Tables, tablesOf, pieceAt, isCut, refinementEnds, sixfoldAt}
+use Rattle.mesh_tables.specs.Tables.{Tables, tablesOf, pieceAt, isCut, refinementEnds, sixfoldAt}
 use Rattle.check_refusals.specs.Check.{leaves}
 use Rattle.build_marks.specs.Rows.{K-coordinates, K-corners}
 use Rattle.build_service.specs.Build.{buildNumber, buildBytes}

@@ -8,7 +8,7 @@ use native.Mathlib.Omega.{arith}
 use Rattle.stored.specs.Fitting.{U16, U32}
 use Rattle.stored.specs.Layout.{none, limits, meshBytes}
 use Rattle.stored.specs.Meshes.{mesh-right-length, mesh-right-mark}
-use Rattle.check_refusals.specs.Tables.{Tables, tablesOf}
+use Rattle.mesh_tables.specs.Tables.{Tables, tablesOf}
 use Rattle.check_refusals.specs.Refusals.{wrongLength, wrongMark}
 use Rattle.check_meaning.specs.Accepted.{RightMesh, Accepted}
 use Rattle.check_meaning.specs.Heading.{rule1-holds, rule2-holds}

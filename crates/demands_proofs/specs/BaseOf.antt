@@ -7,8 +7,8 @@ use Prim.Native.Nat.{ℕ, _<_}
 use native.Mathlib.Omega.{arith}
 use Rattle.piece.specs.Shape.{shapeOf}
 use Rattle.piece.specs.Ends.{cornerAt}
-use Rattle.check_refusals.specs.Tables as Check
-use Rattle.check_refusals.specs.Tables.{baseVertices, allVertices, baseRecords, allRecords}
+use Rattle.mesh_tables.specs.Tables as Check
+use Rattle.mesh_tables.specs.Tables.{baseVertices, allVertices, baseRecords, allRecords}
 use Rattle.check_meaning.specs.Accepted.{parentP, parentQ, firstChild}
 use Rattle.cuts_names.specs.Pieces.{Node, pieceAt, makes}
 use Rattle.cuts_names.specs.Macro.{Alike, makes-alike}

@@ -11,8 +11,8 @@ use borrow.Author.Tests.{ltb-true, ne-eqb}
 use Rattle.laws.specs.Lists.{zeroPast}
 use Rattle.laws.specs.Below.{either}
 use Rattle.stored.specs.Layout.{limits, headerOf, meshBytes, selectionOf}
-use Rattle.check_refusals.specs.Tables as Check
-use Rattle.check_refusals.specs.Tables.{tablesOf, allVertices, allRecords}
+use Rattle.mesh_tables.specs.Tables as Check
+use Rattle.mesh_tables.specs.Tables.{tablesOf, allVertices, allRecords}
 use Rattle.check_refusals.specs.Check.{checkNumber, checkOf}
 use Rattle.check_refusals.specs.Rows.{report-number}
 use Rattle.check_meaning.specs.Exactly.{accepts-exactly}

@@ -11,9 +11,8 @@ use Rattle.cuts_names.specs.Lists.{both-ways}
 use Rattle.stored.specs.declared.Limits.{Limits}
 use Rattle.stored.specs.Layout.{none}
 use Rattle.grid.specs.Places.{halfwayOf}
-use Rattle.check_refusals.specs.Tables as Check
-use Rattle.check_refusals.specs.Tables.{allVertices, allRecords, pieceAt}
-use Rattle.check_refusals.specs.Refusals.{leafHangs, hangingEdge}
+use Rattle.mesh_tables.specs.Tables as Check
+use Rattle.mesh_tables.specs.Tables.{allVertices, allRecords, pieceAt, leafHangs, hangingEdge}
 use Rattle.check_meaning.specs.Cuts.{Four}
 use Rattle.refine_pass.specs.Passes.{exceeds, pass, closing, refined}
 use Rattle.refine_pass.specs.Law.{within}

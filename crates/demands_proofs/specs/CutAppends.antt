@@ -18,8 +18,8 @@ use Rattle.grid.specs.Places.{halfwayOf}
 use Rattle.stored.specs.declared.Vertex.{Vertex}
 use Rattle.stored.specs.declared.Record.{Record}
 use Rattle.stored.specs.Layout.{none}
-use Rattle.check_refusals.specs.Tables as Check
-use Rattle.check_refusals.specs.Tables.{baseVertices, allVertices, baseRecords, allRecords, pieceAt, isCut, hasParents, vertexWith, refinementEnds}
+use Rattle.mesh_tables.specs.Tables as Check
+use Rattle.mesh_tables.specs.Tables.{baseVertices, allVertices, baseRecords, allRecords, pieceAt, isCut, hasParents, vertexWith, refinementEnds}
 use Rattle.check_meaning.specs.Vertices.{parents-are}
 use Rattle.check_meaning.specs.Cuts.{Four, cut-four}
 use Rattle.check_meaning.specs.Descent.{child-corner, lower-is-end, higher-is-end}

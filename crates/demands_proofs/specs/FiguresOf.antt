@@ -15,8 +15,8 @@ use Rattle.grid.specs.GridTheorems.{halfway-exactly, halfway-only}
 use Rattle.grid_volume.specs.Volume.{determinantOf, differenceOf, differencesOf, sixfoldOf}
 use Rattle.stored.specs.declared.Vertex.{Vertex}
 use Rattle.stored.specs.Layout.{none}
-use Rattle.check_refusals.specs.Tables as Check
-use Rattle.check_refusals.specs.Tables.{allRecords, pieceAt, isLeaf}
+use Rattle.mesh_tables.specs.Tables as Check
+use Rattle.mesh_tables.specs.Tables.{allRecords, pieceAt, isLeaf}
 use Rattle.check_refusals.specs.Check.{leaves, leafGeneration, deepest, leafSixfold, sixfold}
 use Rattle.cuts_names.specs.Lists.{both-ways, not-so, among, Distinct, without, among-head, among-tail, without-keeps, without-within, without-gone, without-distinct, no-longer}
 use Rattle.cuts_names.specs.Names as Names

@@ -13,8 +13,8 @@ use Rattle.laws.specs.Below.{any-where, any-is}
 use Rattle.stored.specs.declared.Header.{Header}
 use Rattle.stored.specs.declared.Record.{Record}
 use Rattle.stored.specs.Layout.{none, limits, namedIn}
-use Rattle.check_refusals.specs.Tables as Check
-use Rattle.check_refusals.specs.Tables.{tablesOf, allRecords, pieceAt, isCut}
+use Rattle.mesh_tables.specs.Tables as Check
+use Rattle.mesh_tables.specs.Tables.{tablesOf, allRecords, pieceAt, isCut}
 use Rattle.check_meaning.specs.Accepted.{Accepted}
 use Rattle.check_meaning.specs.Cuts.{stored-four}
 use Rattle.refine_selection.specs.Selected.{isNamed}

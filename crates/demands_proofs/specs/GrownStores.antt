@@ -12,8 +12,8 @@ use Rattle.laws.specs.Lists.{four-of}
 use Rattle.piece.specs.Shape.{mark}
 use Rattle.piece.specs.Ends.{cornerAt}
 use Rattle.stored.specs.Layout.{none, Mesh, meshBytes}
-use Rattle.check_refusals.specs.Tables as Check
-use Rattle.check_refusals.specs.Tables.{baseVertices, allVertices, baseRecords, allRecords, pieceAt}
+use Rattle.mesh_tables.specs.Tables as Check
+use Rattle.mesh_tables.specs.Tables.{baseVertices, allVertices, baseRecords, allRecords, pieceAt}
 use Rattle.check_meaning.specs.Accepted.{parentP, parentQ}
 use Rattle.check_meaning.specs.Cuts.{Four}
 use Rattle.refine_service.specs.Refine.{resultOf}

@@ -10,9 +10,8 @@ use Rattle.laws.specs.Pairs.{SamePair}
 use Rattle.piece_edges.specs.Edges.{lowSlot, highSlot}
 use Rattle.piece.specs.Ends.{cornerAt, lowerEnd, higherEnd, endsOf}
 use Rattle.stored.specs.Layout.{none}
-use Rattle.check_refusals.specs.Tables as Check
-use Rattle.check_refusals.specs.Tables.{allVertices, allRecords, pieceAt, isLeaf, isCut, hasParents, hangs}
-use Rattle.check_refusals.specs.Refusals.{hangsAt, leafHangs, hangingEdge}
+use Rattle.mesh_tables.specs.Tables as Check
+use Rattle.mesh_tables.specs.Tables.{allVertices, allRecords, pieceAt, isLeaf, isCut, hasParents, hangs, hangsAt, leafHangs, hangingEdge}
 use Rattle.check_meaning.specs.Accepted.{HasParents, firstChild}
 use Rattle.check_meaning.specs.Vertices.{parents-are}
 use Rattle.check_meaning.specs.Cuts.{rule10-holds}

@@ -16,8 +16,8 @@ use Rattle.piece.specs.Ends.{cornerAt, endsOf, lowerEnd, higherEnd}
 use Rattle.piece_cut.specs.Cut.{childShape, childOf, cutOf}
 use Rattle.stored.specs.declared.Record.{Record}
 use Rattle.stored.specs.Layout.{none}
-use Rattle.check_refusals.specs.Tables as Check
-use Rattle.check_refusals.specs.Tables.{Tables}
+use Rattle.mesh_tables.specs.Tables as Check
+use Rattle.mesh_tables.specs.Tables.{Tables}
 use Rattle.check_meaning.specs.Accepted as Accepted
 use Rattle.check_meaning.specs.Accepted.{HasParents, RightCut, RightCuts, ChildOf, ExactlyOne}
 use Rattle.check_meaning.specs.Cuts.{Four, child-four}

@@ -16,8 +16,8 @@ use Rattle.grid_volume.specs.Volume.{differencesOf, sixfoldOf}
 use Rattle.stored.specs.declared.Vertex.{Vertex}
 use Rattle.stored.specs.declared.Record.{Record}
 use Rattle.stored.specs.Layout.{none}
-use Rattle.check_refusals.specs.Tables as Check
-use Rattle.check_refusals.specs.Tables.{Tables, baseVertices, baseRecords, sixfoldAt}
+use Rattle.mesh_tables.specs.Tables as Check
+use Rattle.mesh_tables.specs.Tables.{Tables, baseVertices, baseRecords, sixfoldAt}
 use Rattle.check_meaning.specs.Accepted as Accepted
 use Rattle.check_meaning.specs.Accepted.{RightCounts, RightVertices, RightBaseRecords, RightBaseMarks, RightFaces, RightUses, Made, pointAt, parentP, parentQ, firstChild, markedEnds}
 use Rattle.build_meaning.specs.Edges.{ends-same}

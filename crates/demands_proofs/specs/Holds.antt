@@ -1,7 +1,7 @@
 -- Tables that hold a numbered set of cuts: entry by entry what its bytes say.
 use mathlib.Core.Path.{_≡_}
 use Prim.Native.Nat.{ℕ, _<_}
-use Rattle.check_refusals.specs.Tables.{Tables, baseVertices, allVertices, baseRecords, allRecords}
+use Rattle.mesh_tables.specs.Tables.{Tables, baseVertices, allVertices, baseRecords, allRecords}
 use Rattle.demands_words.specs.Words.{BaseMesh, Numbering, vertexOf, recordOf}
 
 pub record Holds (m : Tables) (b : BaseMesh) (N : Numbering) : Type 0 where

@@ -18,8 +18,8 @@ use Rattle.piece.specs.Ends.{cornerAt}
 use Rattle.stored.specs.declared.Vertex.{Vertex}
 use Rattle.stored.specs.declared.Record.{Record}
 use Rattle.stored.specs.Layout.{none}
-use Rattle.check_refusals.specs.Tables as Check
-use Rattle.check_refusals.specs.Tables.{pieceAt}
+use Rattle.mesh_tables.specs.Tables as Check
+use Rattle.mesh_tables.specs.Tables.{pieceAt}
 use Rattle.cuts_names.specs.Names.{Name, mid}
 use Rattle.cuts_names.specs.Pieces as Pieces
 use Rattle.cuts_names.specs.Pieces.{Piece, Side, low, high, Node, kid, piece-root}

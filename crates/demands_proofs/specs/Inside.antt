@@ -5,7 +5,7 @@ use mathlib.Core.List.{List}
 use Prim.Native.Nat.{ℕ, suc, _*_, _≤_, _<_}
 use lib.ListN.{length}
 use Rattle.stored.specs.Layout.{limits}
-use Rattle.check_refusals.specs.Tables as Check
+use Rattle.mesh_tables.specs.Tables as Check
 use Rattle.refine_pass.specs.Passes.{exceeds, refined}
 use Rattle.cuts_names.specs.Base.{SameFace, markedAt}
 use Rattle.cuts_names.specs.Pieces.{Node, generation, pieceAt}

@@ -15,8 +15,8 @@ use Rattle.piece.specs.Shape.{shapeOf, mark}
 use Rattle.piece.specs.Ends as Ends
 use Rattle.piece.specs.Ends.{cornerAt, endsOf}
 use Rattle.piece_cut.specs.Cut.{childOf, cutOf}
-use Rattle.check_refusals.specs.Tables as Check
-use Rattle.check_refusals.specs.Tables.{baseRecords, allRecords, pieceAt, refinementEnds}
+use Rattle.mesh_tables.specs.Tables as Check
+use Rattle.mesh_tables.specs.Tables.{baseRecords, allRecords, pieceAt, refinementEnds}
 use Rattle.check_meaning.specs.Accepted as Accepted
 use Rattle.check_meaning.specs.Accepted.{RightMesh, RightCut, HasParents, SameFace, firstChild}
 use Rattle.check_meaning.specs.Bases.{marks-valid}

@@ -1,8 +1,8 @@
 -- The tables that a mesh's bytes hold, as the mathematics of sets of cuts has them: functions of the numbers, without places.
 use Rattle.piece.specs.Shape.{shapeOf}
 use Rattle.piece.specs.Ends.{cornerAt}
-use Rattle.check_refusals.specs.Tables as Check
-use Rattle.check_refusals.specs.Tables.{baseVertices, allVertices, baseRecords, allRecords, pieceAt, isCut}
+use Rattle.mesh_tables.specs.Tables as Check
+use Rattle.mesh_tables.specs.Tables.{baseVertices, allVertices, baseRecords, allRecords, pieceAt, isCut}
 use Rattle.cuts.specs.Tables.{Tables}
 
 abbrev pub link : Check.Tables → Tables

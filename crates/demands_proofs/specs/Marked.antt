@@ -2,8 +2,8 @@
 -- Assumes nothing.
 use Prim.Native.Nat.{ℕ, _<_}
 use Rattle.piece.specs.Shape.{shapeOf, mark}
-use Rattle.check_refusals.specs.Tables as Check
-use Rattle.check_refusals.specs.Tables.{baseRecords, pieceAt, sixfoldAt}
+use Rattle.mesh_tables.specs.Tables as Check
+use Rattle.mesh_tables.specs.Tables.{baseRecords, pieceAt, sixfoldAt}
 use Rattle.check_meaning.specs.Accepted.{RightMesh}
 use Rattle.check_meaning.specs.Cuts.{Four}
 use Rattle.demands_words.specs.Words.{RightPiece, ProperlyMarked}

@@ -7,8 +7,8 @@ use Prim.Native.Nat.{ℕ, suc, _+_, _≤_, _<_}
 use native.Mathlib.Omega.{arith}
 use Rattle.laws.specs.Below.{either}
 use Rattle.grid.specs.Corners.{Midpoint}
-use Rattle.check_refusals.specs.Tables as Check
-use Rattle.check_refusals.specs.Tables.{baseVertices, allVertices, allRecords, isCut}
+use Rattle.mesh_tables.specs.Tables as Check
+use Rattle.mesh_tables.specs.Tables.{baseVertices, allVertices, allRecords, isCut}
 use Rattle.check_meaning.specs.Accepted.{pointAt, parentP, parentQ, firstChild}
 use Rattle.cuts_names.specs.Pieces.{low, high, kid}
 use Rattle.cuts.specs.Sets.{Cuts}

@@ -6,7 +6,7 @@ use native.Mathlib.Omega.{arith}
 use borrow.Author.Tests.{le-ltb}
 use Rattle.stored.specs.declared.Vertex.{Vertex}
 use Rattle.stored.specs.declared.Record.{Record}
-use Rattle.check_refusals.specs.Tables.{tablesOf}
+use Rattle.mesh_tables.specs.Tables.{tablesOf}
 use Rattle.cuts.specs.Tables.{nameOf}
 use Rattle.demands_words.specs.Words.{vertexOf, recordOf, StoredMesh, SameNumbering}
 use Rattle.demands_proofs.specs.Link.{link}

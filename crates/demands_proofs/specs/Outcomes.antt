@@ -17,7 +17,7 @@ use Rattle.stored.specs.Layout.{vertexWidth, recordWidth, limits, lastRound, me
 use Rattle.stored.specs.Fitting.{HeaderFits, header-fits}
 use Rattle.stored.specs.Entries.{header-wide, vertex-wide, record-wide, header-again}
 use Rattle.check_refusals.specs.declared.Report.{Report}
-use Rattle.check_refusals.specs.Tables.{Tables, tablesOf, allRecords, isLeaf, pieceAt}
+use Rattle.mesh_tables.specs.Tables.{Tables, tablesOf, allRecords, isLeaf, pieceAt}
 use Rattle.check_refusals.specs.Check.{checkNumber, accepted, refusedWith, hangingReport, reportOf, checkOf}
 use Rattle.check_refusals.specs.Bounded.{Bounded, bounded}
 use Rattle.check_refusals.specs.Rows.{check-small, report-number}

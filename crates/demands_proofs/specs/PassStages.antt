@@ -15,8 +15,8 @@ use Rattle.stored.specs.declared.Limits.{Limits}
 use Rattle.stored.specs.declared.Vertex.{Vertex}
 use Rattle.stored.specs.declared.Record.{Record}
 use Rattle.stored.specs.Layout.{none}
-use Rattle.check_refusals.specs.Tables as Check
-use Rattle.check_refusals.specs.Tables.{baseVertices, allVertices, allRecords, pieceAt, isCut}
+use Rattle.mesh_tables.specs.Tables as Check
+use Rattle.mesh_tables.specs.Tables.{baseVertices, allVertices, allRecords, pieceAt, isCut}
 use Rattle.check_meaning.specs.Cuts.{Four}
 use Rattle.refine_cut.specs.Cut.{cutAt}
 use Rattle.refine_pass.specs.Passes.{exceeds, turn, passBelow, pass}

@@ -18,8 +18,8 @@ use Rattle.stored.specs.declared.Header.{Header}
 use Rattle.stored.specs.declared.Vertex.{Vertex}
 use Rattle.stored.specs.declared.Record.{Record}
 use Rattle.stored.specs.Layout.{none, storedNone, orNone, limits}
-use Rattle.check_refusals.specs.Tables as Check
-use Rattle.check_refusals.specs.Tables.{baseVertices, allVertices, baseRecords, pieceAt, sixfoldAt}
+use Rattle.mesh_tables.specs.Tables as Check
+use Rattle.mesh_tables.specs.Tables.{baseVertices, allVertices, baseRecords, pieceAt, sixfoldAt}
 use Rattle.check_refusals.specs.Refusals.{wrongCounts, badVertices, badBaseRecords, badBaseFaces, unusedVertices}
 use Rattle.check_meaning.specs.Tests.{Fails, reads, equal, not-below, not-fails, or-fails}
 use Rattle.check_meaning.specs.Accepted as Accepted

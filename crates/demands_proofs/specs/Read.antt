@@ -20,7 +20,7 @@ use Rattle.grid.specs.GridTheorems.{halfway-exactly, halfway-only}
 use Rattle.stored.specs.Layout.{limits, meshBytes}
 use Rattle.stored.specs.Fitting.{OrNone, VertexFits, RecordFits, Counted, MeshFits, U16, U32}
 use Rattle.stored.specs.Meshes.{mesh-header, mesh-vertex, mesh-record}
-use Rattle.check_refusals.specs.Tables.{tablesOf}
+use Rattle.mesh_tables.specs.Tables.{tablesOf}
 use Rattle.check_meaning.specs.Tests.{equal, and-passes, or-passes}
 use Rattle.check_meaning.specs.Accepted.{OnGrid, RightMarks}
 use Rattle.check_meaning.specs.Bases.{valid-is, valid-marks}

@@ -13,7 +13,7 @@ use Rattle.laws.specs.Below.{either, or-second}
 use Rattle.laws.specs.Order.{Rule, rule, Giving, Judged, judge, done, judged-then, given-exactly, accepted-exactly, given-passes, OneOf, one-of-them}
 use Rattle.stored.specs.declared.Limits.{Limits}
 use Rattle.stored.specs.Layout.{limits, meshLength, headerOf, selectionOf}
-use Rattle.check_refusals.specs.Tables.{Tables, tablesOf, allVertices, allRecords}
+use Rattle.mesh_tables.specs.Tables.{Tables, tablesOf, allVertices, allRecords}
 use Rattle.check_refusals.specs.Check.{rows, tableRows, checkNumber}
 use Rattle.check_meaning.specs.Tests.{Fails, reads, not-below, or-fails}
 use Rattle.check_meaning.specs.Accepted.{Within, Accepted}

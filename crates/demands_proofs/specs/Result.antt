@@ -14,8 +14,8 @@ use Rattle.grid.specs.Corners.{Midpoint}
 use Rattle.grid.specs.GridTheorems.{halfway-exactly, halfway-only}
 use Rattle.stored.specs.declared.Vertex.{Vertex}
 use Rattle.stored.specs.Layout.{none, limits, lastRound, meshBytes}
-use Rattle.check_refusals.specs.Tables as Check
-use Rattle.check_refusals.specs.Tables.{baseVertices, allVertices, allRecords, pieceAt}
+use Rattle.mesh_tables.specs.Tables as Check
+use Rattle.mesh_tables.specs.Tables.{baseVertices, allVertices, allRecords, pieceAt}
 use Rattle.check_meaning.specs.Accepted.{pointAt, parentP, parentQ}
 use Rattle.check_meaning.specs.Cuts.{Four}
 use Rattle.refine_pass.specs.Passes.{exceeds}

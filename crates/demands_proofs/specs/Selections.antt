@@ -11,7 +11,7 @@ use lib.ListN.{length}
 use lib.Dec.{eqb}
 use Rattle.piece.specs.Shape.{lastGeneration}
 use Rattle.stored.specs.Layout.{none, lastRound, byteAt, u16At, marked, rightSelectionLength, rightSelectionMark, selectionOf, namedIn}
-use Rattle.check_refusals.specs.Tables.{Tables, allRecords, pieceAt}
+use Rattle.mesh_tables.specs.Tables.{Tables, allRecords, pieceAt}
 use Rattle.check_meaning.specs.Tests.{Passes, Fails, reads, equal, at-most, below, not-at-most, fails-unless, not-fails, and-passes, and-fails, or-fails, none-passes}
 use Rattle.check_meaning.specs.Accepted.{firstChild, Leaf}
 use Rattle.refine_selection.specs.Selected.{wrongSelectionLength, wrongSelectionMark, anotherJob, anotherRound, badNumber, badNumbers, namesCut, namesLast}

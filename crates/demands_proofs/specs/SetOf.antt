@@ -12,8 +12,8 @@ use Rattle.piece_edges.specs.Edges.{lowSlot, highSlot}
 use Rattle.piece.specs.Shape.{lastGeneration}
 use Rattle.piece.specs.Ends.{cornerAt, lowerEnd, higherEnd, endsOf}
 use Rattle.stored.specs.declared.Limits.{Limits}
-use Rattle.check_refusals.specs.Tables as Check
-use Rattle.check_refusals.specs.Tables.{baseVertices, allVertices, allRecords, pieceAt}
+use Rattle.mesh_tables.specs.Tables as Check
+use Rattle.mesh_tables.specs.Tables.{baseVertices, allVertices, allRecords, pieceAt}
 use Rattle.check_meaning.specs.Accepted as Accepted
 use Rattle.check_meaning.specs.Accepted.{HasParents, parentP, parentQ}
 use Rattle.cuts_names.specs.Pieces.{Node, generation}

@@ -5,7 +5,7 @@ use Prim.Native.Nat.{ℕ, _<_}
 use native.Mathlib.Omega.{arith}
 use Rattle.laws.specs.Below.{sumBelow, sum-same}
 use Rattle.check_refusals.specs.declared.Report.{Report}
-use Rattle.check_refusals.specs.Tables.{tablesOf, baseRecords}
+use Rattle.mesh_tables.specs.Tables.{tablesOf, baseRecords}
 use Rattle.check_refusals.specs.Check.{checkNumber, accepted, reportOf, checkOf, leaves, deepest, sixfold}
 use Rattle.check_meaning.specs.Exactly.{accepts-exactly}
 use Rattle.check_meaning.specs.Cuts.{stored-four}

@@ -8,7 +8,7 @@ use Rattle.laws.specs.Lists.{Bytes}
 use Rattle.stored.specs.Layout.{limits, rightMark, rightLength, headerOf, meshOf, meshBytes}
 use Rattle.stored.specs.Fitting.{header-fits}
 use Rattle.stored.specs.Meshes.{mesh-written-again}
-use Rattle.check_refusals.specs.Tables.{tablesOf, baseRecords}
+use Rattle.mesh_tables.specs.Tables.{tablesOf, baseRecords}
 use Rattle.check_refusals.specs.Refusals.{wrongLength, wrongMark}
 use Rattle.check_meaning.specs.Accepted.{RightLength, RightMark, Accepted}
 use Rattle.check_meaning.specs.Heading.{rule1-holds, rule2-holds}

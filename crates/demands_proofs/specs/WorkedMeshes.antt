@@ -12,7 +12,7 @@ use borrow.Author.Tests.{ltb-true}
 use Rattle.laws.specs.Below.{and-left, and-right}
 use Rattle.laws.specs.Lists.{zeroPast, Bytes, bytes-none, bytes-cons}
 use Rattle.stored.specs.Layout.{headerOf}
-use Rattle.check_refusals.specs.Tables.{tablesOf}
+use Rattle.mesh_tables.specs.Tables.{tablesOf}
 use Rattle.build_marks.specs.Rows.{K-coordinates, K-corners}
 use Rattle.build_service.specs.Build.{buildNumber, buildBytes}
 use Rattle.build_meaning.specs.Rows.{computed as build-computed}

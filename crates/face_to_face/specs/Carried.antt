@@ -8,7 +8,7 @@ use Rattle.laws.specs.Pairs.{SamePair}
 use Rattle.piece_edges.specs.Edges.{lowSlot, highSlot, slots-small}
 use Rattle.piece.specs.Shape.{Shape, shapeOf, mark}
 use Rattle.piece.specs.Ends.{cornerAt}
-use Rattle.check_refusals.specs.Tables.{Tables, tablesOf, allVertices, baseRecords, allRecords, pieceAt}
+use Rattle.mesh_tables.specs.Tables.{Tables, tablesOf, allVertices, baseRecords, allRecords, pieceAt}
 use Rattle.check_meaning.specs.Accepted.{OnFace, SameFace, markedEnds, Leaf, RightFaces, NoneHangs, Accepted}
 use Rattle.check_meaning.specs.Cuts.{is-leaf, rule10-holds, stored-four}
 use Rattle.build_meaning.specs.Edges.{ends-same}

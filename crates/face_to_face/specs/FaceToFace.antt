@@ -7,7 +7,7 @@ use Prim.Native.Nat.{ℕ, _≤_}
 use lib.ListN.{length}
 use lib.IntN.{ℤ}
 use Rattle.laws.specs.Lists.{zeroPast, Bytes}
-use Rattle.check_refusals.specs.Tables.{tablesOf}
+use Rattle.mesh_tables.specs.Tables.{tablesOf}
 use Rattle.check_refusals.specs.Check.{checkNumber}
 use Rattle.check_refusals.specs.Rows.{report-number}
 use Rattle.check_meaning.specs.Exactly.{accepts-exactly}

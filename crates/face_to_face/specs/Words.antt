@@ -3,7 +3,7 @@
 use mathlib.Core.Path.{_≡_}
 use mathlib.Core.Logic.{_⊎_, _≢_}
 use Prim.Native.Nat.{ℕ, _<_}
-use Rattle.check_refusals.specs.Tables.{Tables, baseRecords, allRecords, pieceAt}
+use Rattle.mesh_tables.specs.Tables.{Tables, baseRecords, allRecords, pieceAt}
 use Rattle.check_meaning.specs.Accepted.{Made, parentP, parentQ, OnFace, SameFace, markedEnds, Leaf}
 
 -- "“Lies in” is by descent of the corners from that base face's corners": a vertex lies in face g of base record r if it is one of that face's three

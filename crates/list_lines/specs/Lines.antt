@@ -6,7 +6,7 @@ use Rattle.piece.specs.declared.Piece.{Piece}
 use Rattle.piece.specs.Ends.{cornerAt}
 use Rattle.stored.specs.declared.Header.{Header}
 use Rattle.check_refusals.specs.declared.Report.{Report}
-use Rattle.check_refusals.specs.Tables.{refinementEnds}
+use Rattle.mesh_tables.specs.Tables.{refinementEnds}
 use Rattle.list_text.specs.Text.{figures, lineFeed}
 
 -- "a 128-byte line buffer"

@@ -11,8 +11,8 @@ use Rattle.piece_cut.specs.Cut.{newMark, childFlag, childMark, childShape, chil
 use Rattle.grid.specs.Places.{coordinate, coordinateOnGrid, onGrid, samePlace, isHalfway, halfwayOf}
 use Rattle.grid_volume.specs.Volume.{minorOf, determinantOf, differenceOf, differencesOf, sixfoldOf}
 use Rattle.stored.specs.Layout.{marked, markBytes, rightMark, rightLength, headerOf, headerBytes, orNone, storedOrNone, heldIn, vertexIn, vertexFrom, vertexBytes, recordIn, recordFrom, recordBytes, meshBytes}
-use Rattle.check_refusals.specs.Tables.{tablesOf, hasParents, vertexWith, hangs, sixfoldAt}
-use Rattle.check_refusals.specs.Refusals.{wrongLength, wrongMark, wrongCounts, badVertices, badVertex, badBaseVertex, placeTwice, badMadeVertex, pairTwice, badBaseRecords, badBaseRecord, badPiece, equalCorners, cornerNotInBase, badBaseMarks, badMarks, badBaseFaces, badFaces, badWith, badTogether, faceInThree, faceBefore, hasFace, sameFace, faceWithin, faceHas, sameCorners, cornersWithin, hasCorner, twoMarks, twoMarksOn, sameMark, sameEnds, unusedVertices, unusedVertex, badCuts, badRecord, badCut, badChildren, isChildOf, notChildOfOne, tooDeep, isMidpointOf, noMidpoint, hangsAt, leafHangs, hangingEdge}
+use Rattle.mesh_tables.specs.Tables.{tablesOf, hasParents, vertexWith, hangs, sixfoldAt, hangsAt, leafHangs, hangingEdge}
+use Rattle.check_refusals.specs.Refusals.{wrongLength, wrongMark, wrongCounts, badVertices, badVertex, badBaseVertex, placeTwice, badMadeVertex, pairTwice, badBaseRecords, badBaseRecord, badPiece, equalCorners, cornerNotInBase, badBaseMarks, badMarks, badBaseFaces, badFaces, badWith, badTogether, faceInThree, faceBefore, hasFace, sameFace, faceWithin, faceHas, sameCorners, cornersWithin, hasCorner, twoMarks, twoMarksOn, sameMark, sameEnds, unusedVertices, unusedVertex, badCuts, badRecord, badCut, badChildren, isChildOf, notChildOfOne, tooDeep, isMidpointOf, noMidpoint}
 use Rattle.laws.specs.Order.{firstBroken}
 use Rattle.check_refusals.specs.Check.{tableRows, rows, checkNumber, reportOf, checkOf, leaves, leafGeneration, deepest, leafSixfold, sixfold}
 use Rattle.refine_meaning.specs.Rows.{K-cut}

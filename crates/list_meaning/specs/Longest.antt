@@ -13,7 +13,7 @@ use borrow.Author.Tests.{ltb-true, ltb-false, eqb-true, eqb-false}
 use Rattle.laws.specs.Below.{either}
 use Rattle.laws.specs.Lists.{zeroPast, Bytes}
 use Rattle.stored.specs.Layout.{limits}
-use Rattle.check_refusals.specs.Tables.{tablesOf, allRecords, isLeaf, pieceAt}
+use Rattle.mesh_tables.specs.Tables.{tablesOf, allRecords, isLeaf, pieceAt}
 use Rattle.check_refusals.specs.Check.{checkOf}
 use Rattle.check_refusals.specs.Rows.{check-small, report-number}
 use Rattle.check_service.specs.Verdict.{accepted-bounded}

@@ -16,7 +16,7 @@ use Rattle.stored.specs.declared.Record.{Record}
 use Rattle.stored.specs.Layout.{headerOf, layoutOf, recordIn}
 use Rattle.stored.specs.Fitting.{HeaderFits, RecordFits, header-fits, record-fits}
 use Rattle.check_refusals.specs.declared.Report.{Report}
-use Rattle.check_refusals.specs.Tables.{tablesOf, allRecords, uncut, isLeaf}
+use Rattle.mesh_tables.specs.Tables.{tablesOf, allRecords, uncut, isLeaf}
 use Rattle.check_refusals.specs.Check.{accepted, checkOf, leaves, leafGeneration, deepest, leafSixfold, sixfold}
 use Rattle.check_figures.specs.Bounds.{most, leaf-at-most}
 use Rattle.check_service.specs.Verdict.{accepted-whole, accepted-bounded}

@@ -8,7 +8,7 @@ use lib.Dec.{ltb, eqb}
 use Rattle.laws.specs.Lists.{zeroPast, joined}
 use Rattle.stored.specs.Layout.{limits, meshLength}
 use Rattle.check_refusals.specs.declared.Report.{Report}
-use Rattle.check_refusals.specs.Tables.{Tables, tablesOf, allRecords, isLeaf, pieceAt}
+use Rattle.mesh_tables.specs.Tables.{Tables, tablesOf, allRecords, isLeaf, pieceAt}
 use Rattle.check_refusals.specs.Check.{checkOf}
 use Rattle.list_lines.specs.Lines.{lineRoom, refusedLine, headingLine, leafLine}
 use Rattle.list_service.specs.declared.Listed.{Listed}

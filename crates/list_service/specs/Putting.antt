@@ -15,7 +15,7 @@ use Rattle.laws.specs.Lists.{joined, joined-append, sets-append, clear-with}
 use Rattle.stored.specs.declared.Record.{Record}
 use Rattle.stored.specs.Fitting.{RecordFits}
 use Rattle.check_refusals.specs.declared.Report.{Report}
-use Rattle.check_refusals.specs.Tables.{Tables, tablesOf, allRecords, uncut, isLeaf, pieceAt}
+use Rattle.mesh_tables.specs.Tables.{Tables, tablesOf, allRecords, uncut, isLeaf, pieceAt}
 use Rattle.check_refusals.specs.Check.{checkOf}
 use Rattle.list_text.specs.Line.{Line, line, put}
 use Rattle.list_text.specs.Laws.{put-whole}

@@ -9,7 +9,7 @@ ghost use Prim.Native.Nat.{ℕ, _+_, _≤_, _<_, _^_};
 ghost use lib.ListN.{length};
 ghost use lib.Dec.{eqb};
 ghost use Rattle.stored.specs.Layout.{headerOf, recordIn};
-ghost use Rattle.check_refusals.specs.Tables.{tablesOf};
+ghost use Rattle.mesh_tables.specs.Tables.{tablesOf};
 ghost use Rattle.check_refusals.specs.Check.{checkOf};
 ghost use Rattle.list_lines.specs.Lines.{lineRoom, refusedLine, headingLine, leafLine};
 ghost use Rattle.list_service.specs.Listing.{leafLines, judgedLines, textOf, ListOutcomeIs};
@@ -65,7 +65,7 @@ fn put_record(out: &mut [u8], at: usize, mesh: &[u8], l: Layout, n: usize) -> us
     requires { ⌜ (n < 10 ^ 10) × (at + lineRoom < 2 ^ 64) ⌝ }
     ensures { λ r. ⌜ TextPut (now (out .entry)) at (leafText (recordIn l (now (mesh .entry)) (now (mesh .entry)) n) n) (now (out .exit)) r ⌝ }
 {
-    if !check_refusals::is_leaf(l, mesh, mesh, n) {
+    if !mesh_tables::is_leaf(l, mesh, mesh, n) {
         return at;
     }
     let record = stored_entries::record_in(l, mesh, mesh, n);

@@ -9,7 +9,7 @@ use lib.IntN.{ℤ, pos}
 use Rattle.laws.specs.Lists.{zeroPast, Bytes}
 use Rattle.stored.specs.Layout.{selectionOf}
 use Rattle.check_refusals.specs.declared.Report.{Report}
-use Rattle.check_refusals.specs.Tables.{tablesOf}
+use Rattle.mesh_tables.specs.Tables.{tablesOf}
 use Rattle.check_refusals.specs.Check.{CheckOutcomeIs}
 use Rattle.check_refusals.specs.Rows.{report-number}
 use Rattle.build_service.specs.Build.{BuildOutcomeIs}

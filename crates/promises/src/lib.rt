@@ -3,7 +3,6 @@
 use check_refusals::Report;
 use list_service::Listed;
 ghost use lib.ListN.{length};
-ghost use Rattle.demands_words.specs.Words.{I16};
 ghost use Rattle.promises.specs.Promises.{EachI16, CheckPromise, BuildPromise, RefinePromise, ListPromise};
 
 pub fn check(mesh: &[u8]) -> Report

@@ -12,7 +12,7 @@ use Rattle.stored.specs.declared.Header.{Header}
 use Rattle.stored.specs.declared.Vertex.{Vertex}
 use Rattle.stored.specs.declared.Record.{Record}
 use Rattle.stored.specs.Layout.{none}
-use Rattle.check_refusals.specs.Tables.{Tables, allVertices, allRecords, pieceAt, vertexWith, refinementEnds}
+use Rattle.mesh_tables.specs.Tables.{Tables, allVertices, allRecords, pieceAt, vertexWith, refinementEnds}
 
 -- "A made vertex records its two parents and stands exactly halfway between them.": where a sum is odd, the half is rounded down.
 unfoldable pub midpointOf : (ℕ → Vertex) → Ends → Vertex

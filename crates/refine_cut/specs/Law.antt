@@ -18,7 +18,7 @@ use Rattle.stored.specs.Layout.{storedNone, vertexBytes, recordBytes, vertexIn,
 use Rattle.stored.specs.Fitting.{OrNone, VertexFits, RecordFits, into-base-bytes, into-growth-bytes, vertex-fits, record-fits}
 use Rattle.stored.specs.Entries.{vertex-is-bytes, record-is-bytes}
 use Rattle.stored.specs.Tables.{Holds, vertex-put, vertex-put-records, vertex-put-holds, record-put, record-put-vertices, record-put-holds}
-use Rattle.check_refusals.specs.Tables.{Tables, hasParents, vertexWith, refinementEnds}
+use Rattle.mesh_tables.specs.Tables.{Tables, hasParents, vertexWith, refinementEnds}
 use Rattle.refine_cut.specs.Cut.{midpointOf, oneVertexMore, twoRecordsMore, withMidpoint, cutRecord, leafRecord, withChildren, cutAt}
 use Rattle.refine_cut.specs.Slices.{Slices, tablesIn, vertexPut, recordPut, headed, midpointPut, childrenPut, hasRoom, cutWith, cutPut}
 use Rattle.refine_cut.specs.Fits.{cut-record-fits, children-fit, midpoint-fits}

@@ -12,7 +12,7 @@ use Rattle.grid.specs.Places.{halfwayOf}
 use Rattle.stored.specs.declared.Vertex.{Vertex}
 use Rattle.stored.specs.declared.Record.{Record}
 use Rattle.stored.specs.Layout.{none}
-use Rattle.check_refusals.specs.Tables.{Tables, allVertices, allRecords, hasParents, vertexWith}
+use Rattle.mesh_tables.specs.Tables.{Tables, allVertices, allRecords, hasParents, vertexWith}
 use Rattle.refine_cut.specs.Cut.{midpointOf, withMidpoint, withChildren, cutAt}
 
 -- The vertex at these places with these parents. A coordinate's place is 32,768 more.

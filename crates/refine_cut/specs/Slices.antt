@@ -10,7 +10,7 @@ use Rattle.stored.specs.declared.Header.{Header}
 use Rattle.stored.specs.declared.Vertex.{Vertex}
 use Rattle.stored.specs.declared.Record.{Record}
 use Rattle.stored.specs.Layout.{baseInto, grownInto, vertexBytes, recordBytes, vertexIn, recordIn}
-use Rattle.check_refusals.specs.Tables.{Tables, tables, vertexWith, refinementEnds}
+use Rattle.mesh_tables.specs.Tables.{Tables, tables, vertexWith, refinementEnds}
 use Rattle.refine_cut.specs.Cut.{midpointOf, oneVertexMore, twoRecordsMore, cutRecord, leafRecord}
 
 -- A header, a base slice and a growth slice.

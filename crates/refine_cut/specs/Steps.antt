@@ -15,7 +15,7 @@ use Rattle.stored.specs.declared.Header.{Header}
 use Rattle.stored.specs.declared.Vertex.{Vertex}
 use Rattle.stored.specs.declared.Record.{Record}
 use Rattle.stored.specs.Layout.{baseInto, grownInto, vertexBytes, recordBytes, vertexIn, recordIn}
-use Rattle.check_refusals.specs.Tables.{refinementEnds}
+use Rattle.mesh_tables.specs.Tables.{refinementEnds}
 use Rattle.refine_cut.specs.Cut.{midpointOf, oneVertexMore, twoRecordsMore, cutRecord, leafRecord}
 use Rattle.refine_cut.specs.Slices.{Slices, slices, vertexPut, recordPut, headed, midpointPut, childrenPut, hasRoom, cutWith}
 

@@ -8,7 +8,7 @@ use stored::Vertex;
 ghost use mathlib.Core.Path.{_≡_};
 ghost use Prim.Native.Nat.{_+_, _<_};
 ghost use Rattle.stored.specs.Layout.{vertexIn, recordIn};
-ghost use Rattle.check_refusals.specs.Tables.{tables, vertexWith, refinementEnds};
+ghost use Rattle.mesh_tables.specs.Tables.{tables, vertexWith, refinementEnds};
 ghost use Rattle.refine_cut.specs.Cut.{midpointOf, cutAt};
 ghost use Rattle.refine_cut.specs.Slices.{slices, midpointPut, childrenPut, cutWith};
 ghost use Rattle.refine_cut.specs.Law.{Ready};

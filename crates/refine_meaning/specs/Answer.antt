@@ -9,7 +9,7 @@ use borrow.Author.Tests.{leb-true}
 use Rattle.laws.specs.Lists.{zeroPast}
 use Rattle.laws.specs.Order.{given-passes}
 use Rattle.stored.specs.Layout.{limits, headerOf, meshBytes, rightSelectionLength, rightSelectionMark, selectionOf, namedIn}
-use Rattle.check_refusals.specs.Tables.{tablesOf}
+use Rattle.mesh_tables.specs.Tables.{tablesOf}
 use Rattle.check_refusals.specs.Check.{rows, tableRows, checkNumber}
 use Rattle.refine_selection.specs.Selected.{anotherJob, anotherRound, isNamed}
 use Rattle.refine_pass.specs.Stays.{job-stays, round-stays, base-vertices-stay, base-records-stay}

@@ -14,8 +14,7 @@ use Rattle.piece_cut.specs.Cut.{cutOf}
 use Rattle.stored.specs.declared.Limits.{Limits}
 use Rattle.stored.specs.declared.Record.{Record}
 use Rattle.stored.specs.Layout.{limits, selectionOf, namedIn}
-use Rattle.check_refusals.specs.Tables.{Tables, tablesOf, uncut, allVertices, allRecords, pieceAt, vertexWith, refinementEnds}
-use Rattle.check_refusals.specs.Refusals.{hangsAt, leafHangs, hangingEdge}
+use Rattle.mesh_tables.specs.Tables.{Tables, tablesOf, uncut, allVertices, allRecords, pieceAt, vertexWith, refinementEnds, hangsAt, leafHangs, hangingEdge}
 use Rattle.check_refusals.specs.Check.{rows, tableRows, checkNumber}
 use Rattle.refine_selection.specs.Selected.{namesCut, isNamed}
 use Rattle.refine_cut.specs.Cut.{withMidpoint, withChildren, cutRecord, leafRecord, cutAt}

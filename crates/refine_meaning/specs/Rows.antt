@@ -15,8 +15,8 @@ use Rattle.grid_volume.specs.Volume.{minorOf, determinantOf, differenceOf, diff
 use Rattle.stored.specs.declared.Vertex.{Vertex}
 use Rattle.stored.specs.declared.Record.{Record}
 use Rattle.stored.specs.Layout.{none, marked, markBytes, rightMark, rightLength, headerOf, headerBytes, orNone, storedOrNone, heldIn, vertexIn, vertexFrom, vertexBytes, recordIn, recordFrom, recordBytes, meshBytes, rightSelectionMark, rightSelectionLength, selectionOf, selectionBytes, namedIn}
-use Rattle.check_refusals.specs.Tables.{tablesOf, hasParents, vertexWith, hangs, sixfoldAt}
-use Rattle.check_refusals.specs.Refusals.{wrongLength, wrongMark, wrongCounts, badVertices, badVertex, badBaseVertex, placeTwice, badMadeVertex, pairTwice, badBaseRecords, badBaseRecord, badPiece, equalCorners, cornerNotInBase, badBaseMarks, badMarks, badBaseFaces, badFaces, badWith, badTogether, faceInThree, faceBefore, hasFace, sameFace, faceWithin, faceHas, sameCorners, cornersWithin, hasCorner, twoMarks, twoMarksOn, sameMark, sameEnds, unusedVertices, unusedVertex, badCuts, badRecord, badCut, badChildren, isChildOf, notChildOfOne, tooDeep, isMidpointOf, noMidpoint, hangsAt, leafHangs, hangingEdge}
+use Rattle.mesh_tables.specs.Tables.{tablesOf, hasParents, vertexWith, hangs, sixfoldAt, hangsAt, leafHangs, hangingEdge}
+use Rattle.check_refusals.specs.Refusals.{wrongLength, wrongMark, wrongCounts, badVertices, badVertex, badBaseVertex, placeTwice, badMadeVertex, pairTwice, badBaseRecords, badBaseRecord, badPiece, equalCorners, cornerNotInBase, badBaseMarks, badMarks, badBaseFaces, badFaces, badWith, badTogether, faceInThree, faceBefore, hasFace, sameFace, faceWithin, faceHas, sameCorners, cornersWithin, hasCorner, twoMarks, twoMarksOn, sameMark, sameEnds, unusedVertices, unusedVertex, badCuts, badRecord, badCut, badChildren, isChildOf, notChildOfOne, tooDeep, isMidpointOf, noMidpoint}
 use Rattle.laws.specs.Order.{firstBroken}
 use Rattle.check_refusals.specs.Check.{tableRows, rows, leaves}
 use Rattle.refine_selection.specs.Selected.{wrongSelectionLength, wrongSelectionMark, anotherJob, anotherRound, badNumber, badNumbers, namesCut, namesLast, isNamed}

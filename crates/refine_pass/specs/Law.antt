@@ -17,8 +17,7 @@ use Rattle.stored.specs.declared.Header.{Header}
 use Rattle.stored.specs.declared.Record.{Record}
 use Rattle.stored.specs.Layout.{storedNone, vertexWidth, recordWidth, limits}
 use Rattle.stored.specs.Tables.{Holds, working-holds}
-use Rattle.check_refusals.specs.Tables.{Tables, allVertices, allRecords, pieceAt, vertexWith, refinementEnds}
-use Rattle.check_refusals.specs.Refusals.{leafHangs, hangingEdge}
+use Rattle.mesh_tables.specs.Tables.{Tables, allVertices, allRecords, pieceAt, vertexWith, refinementEnds, leafHangs, hangingEdge}
 use Rattle.piece_cut.specs.Cut.{cutOf}
 use Rattle.refine_cut.specs.Cut.{oneVertexMore, midpointOf, withMidpoint, cutRecord, leafRecord, withChildren, cutAt}
 use Rattle.refine_cut.specs.Slices.{Slices, tablesIn, cutPut}

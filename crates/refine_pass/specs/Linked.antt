@@ -13,8 +13,8 @@ use Rattle.piece.specs.declared.Ends.{Ends}
 use Rattle.stored.specs.declared.Limits.{Limits}
 use Rattle.stored.specs.declared.Layout.{Layout}
 use Rattle.stored.specs.Layout.{vertexWidth, recordWidth, limits, working, recordIn}
-use Rattle.check_refusals.specs.Tables.{Tables, allVertices, hasParents, vertexWith, refinementEnds}
-use Rattle.check_parents.specs.Pairs.{pairKey, keyOf, pairLinks, pairs-nexts-long, pairs-same, Linked, empty, all-linked, vertex-with-is}
+use Rattle.mesh_tables.specs.Tables.{Tables, allVertices, hasParents, vertexWith, refinementEnds}
+use Rattle.mesh_parents.specs.Pairs.{pairKey, keyOf, pairLinks, pairs-nexts-long, pairs-same, Linked, empty, all-linked, vertex-with-is}
 use Rattle.refine_cut.specs.Cut.{cutAt}
 use Rattle.refine_cut.specs.Slices.{Slices, tablesIn, cutWith, cutPut}
 use Rattle.refine_cut.specs.Law.{cut-tables}

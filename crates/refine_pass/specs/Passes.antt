@@ -5,8 +5,7 @@ use Prim.Native.Nat.{ℕ, zero, suc}
 use lib.Dec.{ltb}
 use Rattle.stored.specs.declared.Limits.{Limits}
 use Rattle.stored.specs.declared.Header.{Header}
-use Rattle.check_refusals.specs.Tables.{Tables, allRecords}
-use Rattle.check_refusals.specs.Refusals.{leafHangs, hangingEdge}
+use Rattle.mesh_tables.specs.Tables.{Tables, allRecords, leafHangs, hangingEdge}
 use Rattle.refine_cut.specs.Cut.{cutAt}
 
 -- "exceeds 1,024 vertices or 3,072 records", or what other limits have it

@@ -6,7 +6,7 @@ use lib.Dec.{leb}
 use Rattle.stored.specs.declared.Limits.{Limits}
 use Rattle.stored.specs.declared.Layout.{Layout}
 use Rattle.stored.specs.Layout.{vertexWidth, recordWidth, limits, working}
-use Rattle.check_refusals.specs.Refusals.{leafHangs, hangingEdge}
+use Rattle.mesh_tables.specs.Tables.{leafHangs, hangingEdge}
 use Rattle.refine_cut.specs.Slices.{Slices, tablesIn, cutPut}
 use Rattle.refine_pass.specs.Passes.{exceeds}
 

@@ -7,8 +7,7 @@ use Rattle.laws.specs.Below.{putAt}
 use Rattle.piece.specs.declared.Ends.{Ends}
 use Rattle.stored.specs.declared.Limits.{Limits}
 use Rattle.stored.specs.declared.Header.{Header}
-use Rattle.check_refusals.specs.Tables.{Tables, allVertices, allRecords, pieceAt, vertexWith, refinementEnds}
-use Rattle.check_refusals.specs.Refusals.{leafHangs, hangingEdge}
+use Rattle.mesh_tables.specs.Tables.{Tables, allVertices, allRecords, pieceAt, vertexWith, refinementEnds, leafHangs, hangingEdge}
 use Rattle.refine_cut.specs.Cut.{oneVertexMore, twoRecordsMore, midpointOf, withMidpoint, withChildren, cutAt}
 use Rattle.refine_pass.specs.Passes.{exceeds, turn, passBelow, pass, closing, refined}
 

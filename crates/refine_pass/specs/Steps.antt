@@ -14,8 +14,7 @@ use Rattle.stored.specs.declared.Limits.{Limits}
 use Rattle.stored.specs.declared.Layout.{Layout}
 use Rattle.stored.specs.declared.Header.{Header}
 use Rattle.stored.specs.Layout.{vertexWidth, recordWidth, limits, vertexIn, recordIn}
-use Rattle.check_refusals.specs.Tables.{vertexWith, refinementEnds}
-use Rattle.check_refusals.specs.Refusals.{leafHangs, hangingEdge}
+use Rattle.mesh_tables.specs.Tables.{vertexWith, refinementEnds, leafHangs, hangingEdge}
 use Rattle.refine_cut.specs.Cut.{midpointOf, oneVertexMore, twoRecordsMore}
 use Rattle.refine_cut.specs.Slices.{Slices, tablesIn, vertexPut, headed, midpointPut, childrenPut, hasRoom, cutWith, cutPut}
 use Rattle.refine_pass.specs.Passes.{exceeds}

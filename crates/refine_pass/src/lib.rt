@@ -12,9 +12,8 @@ ghost use lib.ListN.{length};
 ghost use Rattle.laws.specs.Links.{Chain, countedAt};
 ghost use Rattle.laws.specs.Counts.{countsBelow, marked};
 ghost use Rattle.stored.specs.Layout.{limits, namedIn};
-ghost use Rattle.check_refusals.specs.Tables.{tables};
-ghost use Rattle.check_refusals.specs.Refusals.{leafHangs};
-ghost use Rattle.check_parents.specs.Pairs.{keyOf, Linked};
+ghost use Rattle.mesh_tables.specs.Tables.{tables, leafHangs};
+ghost use Rattle.mesh_parents.specs.Pairs.{keyOf, Linked};
 ghost use Rattle.refine_selection.specs.Selected.{isNamed};
 ghost use Rattle.refine_cut.specs.Slices.{slices, cutPut};
 ghost use Rattle.refine_pass.specs.Passes.{exceeds};
@@ -45,8 +44,8 @@ fn cut<'a>(
     requires { ⌜ Linked (tables h l (now base) (now grown)) (now heads) (now nexts) ⌝ }
     ensures { λ r. ⌜ slices r (now (base .exit)) (now (grown .exit)) ≡ cutPut l (slices h (now (base .entry)) (now (grown .entry))) n ⌝ }
 {
-    let ends = check_refusals::refinement_ends(l, base, grown, n);
-    let w = check_parents::first_with(h, l, base, grown, heads, nexts, ends);
+    let ends = mesh_tables::refinement_ends(l, base, grown, n);
+    let w = mesh_parents::first_with(h, l, base, grown, heads, nexts, ends);
     refine_cut::cut_at(h, l, base, grown, n, w as u32)
 }
 
@@ -64,7 +63,7 @@ fn link_fresh<'a>(
     ensures { λ _. ⌜ Chain (keyOf (tables h l (now (base .entry)) (now (grown .entry)))) (h .vertices) (now (heads .exit)) (now (nexts .exit)) ⌝ }
 {
     if was < h.vertices {
-        check_parents::link_vertex(h, l, base, grown, heads, nexts, was as usize);
+        mesh_parents::link_vertex(h, l, base, grown, heads, nexts, was as usize);
     }
 }
 
@@ -121,7 +120,7 @@ fn choose_hanging<'a>(
     let mut some = false;
     let mut n: usize = 0;
     while n < records {
-        let hangs = check_hanging::leaf_hangs(h, l, base, grown, heads, nexts, n);
+        let hangs = mesh_hanging::leaf_hangs(h, l, base, grown, heads, nexts, n);
         chosen[n] = hangs as u16;
         some = some | hangs;
         n += 1;
@@ -232,9 +231,9 @@ pub fn refined(
         return h;
     }
     let l = stored::working_layout(most.vertices + 1, most.records + 2);
-    let mut heads = [0u16; check_parents::PAIR_HEADS];
+    let mut heads = [0u16; mesh_parents::PAIR_HEADS];
     let mut nexts = [0u16; stored::WORKING_VERTICES];
-    check_parents::link_pairs(h, l, base, grown, &mut heads, &mut nexts);
+    mesh_parents::link_pairs(h, l, base, grown, &mut heads, &mut nexts);
     passes(
         most,
         h,

@@ -9,7 +9,7 @@ use Rattle.stored.specs.declared.Header.{Header}
 use Rattle.stored.specs.declared.Record.{Record}
 use Rattle.stored.specs.declared.Selection.{Selection}
 use Rattle.stored.specs.Layout.{rightSelectionLength, rightSelectionMark}
-use Rattle.check_refusals.specs.Tables.{uncut}
+use Rattle.mesh_tables.specs.Tables.{uncut}
 
 -- 11: "selection under 13 bytes, or length not 13 + 2n"
 unfoldable pub wrongSelectionLength : List ℕ → Bool

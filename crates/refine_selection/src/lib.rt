@@ -7,7 +7,7 @@ ghost use mathlib.Core.Bool.{not};
 ghost use lib.Dec.{eqb};
 ghost use Rattle.piece.specs.Shape.{lastGeneration};
 ghost use Rattle.stored.specs.Layout.{namedIn, recordIn};
-ghost use Rattle.check_refusals.specs.Tables.{uncut};
+ghost use Rattle.mesh_tables.specs.Tables.{uncut};
 ghost use Rattle.refine_selection.specs.Selected.{anotherJob, anotherRound, badNumber, badNumbers, namesCut, namesLast};
 
 // Refusal 13.
@@ -58,7 +58,7 @@ fn is_cut<'a>(l: Layout, base: &'a [u8], grown: &'a [u8], selection: &'a [u8], i
     ensures { λ r. ⌜ r ≡ not (uncut (recordIn l (now (base .entry)) (now (grown .entry)) (namedIn (now (selection .entry)) i))) ⌝ }
 {
     let n = stored_selections::named_in(selection, i) as usize;
-    !check_refusals::is_leaf(l, base, grown, n)
+    !mesh_tables::is_leaf(l, base, grown, n)
 }
 
 // Refusal 16.

@@ -6,7 +6,7 @@ use Prim.Native.Nat.{ℕ}
 use lib.Dec.{eqb}
 use Rattle.laws.specs.Order.{row, firstBroken, none-broken}
 use Rattle.stored.specs.Layout.{lastRound, rightSelectionLength, rightSelectionMark, selectionOf, namedIn}
-use Rattle.check_refusals.specs.Tables.{Tables}
+use Rattle.mesh_tables.specs.Tables.{Tables}
 use Rattle.refine_selection.specs.Selected.{wrongSelectionLength, wrongSelectionMark, anotherJob, anotherRound, badNumbers, namesCut, namesLast}
 use Rattle.refine_service.specs.Refine.{selectionRows}
 

@@ -8,7 +8,7 @@ use Rattle.laws.specs.Below.{listBelow}
 use Rattle.laws.specs.Order.{Row, row, firstBroken}
 use Rattle.stored.specs.declared.Header.{Header}
 use Rattle.stored.specs.Layout.{limits, lastRound, meshLength, Mesh, meshBytes, selectionOf, namedIn}
-use Rattle.check_refusals.specs.Tables.{Tables, tablesOf, allVertices, allRecords}
+use Rattle.mesh_tables.specs.Tables.{Tables, tablesOf, allVertices, allRecords}
 use Rattle.check_refusals.specs.Check.{rows}
 use Rattle.refine_selection.specs.Selected.{wrongSelectionLength, wrongSelectionMark, anotherJob, anotherRound, badNumbers, namesCut, namesLast, isNamed}
 use Rattle.refine_pass.specs.Passes.{exceeds, refined}

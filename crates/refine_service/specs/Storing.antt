@@ -16,7 +16,7 @@ use Rattle.stored.specs.declared.Header.{Header}
 use Rattle.stored.specs.Layout.{headerWidth, vertexWidth, recordWidth, limits, lastRound, headerOf, rightLength, meshLength, layoutOf, vertexPart, recordPart, assembled, meshBytes, selectionOf, namedIn}
 use Rattle.stored.specs.Meshes.{length-says, assembled-length}
 use Rattle.stored.specs.Worked.{copied-vertices, copied-records, assembled-mesh}
-use Rattle.check_refusals.specs.Tables.{Tables, tables, tablesOf}
+use Rattle.mesh_tables.specs.Tables.{Tables, tables, tablesOf}
 use Rattle.check_refusals.specs.Refusals.{wrongLength}
 use Rattle.check_refusals.specs.Check.{rows, tableRows, checkNumber}
 use Rattle.check_refusals.specs.Bounded.{bounded}

@@ -6,7 +6,7 @@ ghost use mathlib.Core.Path.{_≡_};
 ghost use Prim.Native.Nat.{_<_};
 ghost use lib.ListN.{length};
 ghost use Rattle.stored.specs.Layout.{lastRound, namedIn};
-ghost use Rattle.check_refusals.specs.Tables.{tables};
+ghost use Rattle.mesh_tables.specs.Tables.{tables};
 ghost use Rattle.check_refusals.specs.Check.{checkNumber};
 ghost use Rattle.refine_service.specs.Refine.{nextRound, RefineOutcomeIs};
 ghost use Rattle.refine_service.specs.Order.{selectionNumber, namedNumber};

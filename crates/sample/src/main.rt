@@ -26,7 +26,7 @@ fn print_marks(edge: u8, marks: [u8; 4]) {
 fn print_record(l: Layout, mesh: &[u8], n: usize) {
     let record = stored_entries::record_in(l, mesh, mesh, n);
     let p = record.piece;
-    let ends = check_refusals::refinement_ends(l, mesh, mesh, n);
+    let ends = mesh_tables::refinement_ends(l, mesh, mesh, n);
     print_figure(b"  record ", n as u64);
     let corners = p.corners;
     print_corners(corners);
@@ -34,7 +34,7 @@ fn print_record(l: Layout, mesh: &[u8], n: usize) {
     print_marks(p.edge, marks);
     print_figure(b" cut next at ", ends.lower as u64);
     print_figure(b"-", ends.higher as u64);
-    print_figure(b" sixfold ", check_refusals::sixfold_of(l, mesh, mesh, p));
+    print_figure(b" sixfold ", mesh_tables::sixfold_of(l, mesh, mesh, p));
     io::write_all(STDOUT_FILENO, b"\n");
 }
 
@@ -44,7 +44,7 @@ fn print_leaves(mesh: &[u8]) {
     let count = h.records as usize;
     let mut n: usize = 0;
     while n < count {
-        if check_refusals::is_leaf(l, mesh, mesh, n) {
+        if mesh_tables::is_leaf(l, mesh, mesh, n) {
             print_record(l, mesh, n);
         }
         n += 1;

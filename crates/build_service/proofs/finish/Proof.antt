@@ -11,8 +11,8 @@ use lib.Seq.{sets}
 use Rattle.stored.specs.declared.Layout.{Layout}
 use Rattle.stored.specs.Layout.{assembled}
 use Rattle.stored.specs.Meshes.{assembled-length}
-use Rattle.check_refusals.specs.Tables.{tables}
-use Rattle.check_refusals.specs.Assembled.{tables-assembled}
+use Rattle.mesh_tables.specs.Tables.{tables}
+use Rattle.mesh_tables.specs.Assembled.{tables-assembled}
 use Rattle.build_service.specs.Storing.{judgedNumber, refused-number, refused-bytes, full-number, full-bytes, stored-number, stored-bytes}
 use Rattle.build_service.proofs.finish.Statement.{statement}
 use Rattle.build_service.proofs.finish.Tie as tie

@@ -3,7 +3,7 @@
 use borrow.Author.Needs.{needs}
 use mathlib.Core.Path.{sym, _∙_}
 use denote.Ref.{now}
-use Rattle.check_refusals.specs.Tables.{tables}
+use Rattle.mesh_tables.specs.Tables.{tables}
 use Rattle.check_refusals.specs.Bounded.{within-is}
 use Rattle.build_service.specs.Storing.{judged-4, judged-5, judged-7, judged-8, judged-0}
 use Rattle.build_service.proofs.judged.Statement.{statement}

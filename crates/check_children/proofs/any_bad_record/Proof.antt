@@ -7,7 +7,7 @@ use mathlib.Core.Bool.{false, true≢false}
 use native.Mathlib.Omega.{arith}
 use lib.ListN.{length}
 use Rattle.laws.specs.Below.{anyBelow, any-none, any-next, any-is, any-end}
-use Rattle.check_refusals.specs.Tables.{tables}
+use Rattle.mesh_tables.specs.Tables.{tables}
 use Rattle.laws.specs.Counts.{countsBelow, counts-none, counts-next, counts-end, counts-long}
 use Rattle.check_children.specs.Children.{badRecordBy}
 use Rattle.check_children.specs.Midpoints.{midpointCounted, midpoint-marking}

@@ -6,7 +6,7 @@ use native.Mathlib.Omega.{arith}
 use Rattle.stored.specs.Layout.{limits}
 use Rattle.check_refusals.specs.Bounded.{orBeyond, room}
 use Rattle.check_refusals.specs.Refusals.{badCuts}
-use Rattle.check_parents.specs.Pairs.{all-linked}
+use Rattle.mesh_parents.specs.Pairs.{all-linked}
 use Rattle.check_children.specs.Midpoints.{any-no-midpoint-is}
 use Rattle.check_children.proofs.bad_cuts.Statement.{statement}
 use Rattle.check_children.proofs.bad_cuts.Tie as tie

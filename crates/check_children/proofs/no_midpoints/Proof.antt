@@ -6,7 +6,7 @@ use mathlib.Core.Path.{_≡_, sym, _∙_}
 use mathlib.Core.Bool.{false}
 use native.Mathlib.Omega.{arith}
 use Rattle.laws.specs.Below.{anyBelow, any-none, any-next, any-is, any-end}
-use Rattle.check_refusals.specs.Tables.{tables}
+use Rattle.mesh_tables.specs.Tables.{tables}
 use Rattle.check_children.specs.Midpoints.{noMidpointBy}
 use Rattle.check_children.proofs.no_midpoints.Statement.{statement}
 use Rattle.check_children.proofs.no_midpoints.Tie as tie

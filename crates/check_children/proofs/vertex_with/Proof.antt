@@ -2,7 +2,7 @@
 -- Assumes nothing.
 use borrow.Author.Needs.{needs}
 use mathlib.Core.Path.{_∙_}
-use Rattle.check_parents.specs.Pairs.{vertex-with-is}
+use Rattle.mesh_parents.specs.Pairs.{vertex-with-is}
 use Rattle.check_children.proofs.vertex_with.Statement.{statement}
 use Rattle.check_children.proofs.vertex_with.Tie as tie
 

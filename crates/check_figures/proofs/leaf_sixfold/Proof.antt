@@ -9,7 +9,7 @@ use denote.Ref.{now}
 use Rattle.grid.specs.Places.{pointOf}
 use Rattle.grid_volume.specs.Volume.{sixfoldOf}
 use Rattle.stored.specs.Layout.{vertexIn}
-use Rattle.check_refusals.specs.Tables.{sixfoldAt}
+use Rattle.mesh_tables.specs.Tables.{sixfoldAt}
 use Rattle.check_refusals.specs.Check.{leafSixfold}
 use Rattle.check_figures.proofs.leaf_sixfold.Statement.{statement}
 use Rattle.check_figures.proofs.leaf_sixfold.Tie as tie

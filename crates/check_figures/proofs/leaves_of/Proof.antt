@@ -8,7 +8,7 @@ use denote.Ref.{now}
 use Rattle.laws.specs.Below.{bit, bit-small, countBelow, count-none, count-next, count-at-most}
 use native.Mathlib.Nat.{le-antisymm}
 use Rattle.stored.specs.Layout.{recordIn}
-use Rattle.check_refusals.specs.Tables.{uncut}
+use Rattle.mesh_tables.specs.Tables.{uncut}
 use Rattle.check_refusals.specs.Check.{leaves}
 use Rattle.check_figures.proofs.leaves_of.Statement.{statement}
 use Rattle.check_figures.proofs.leaves_of.Tie as tie

@@ -5,9 +5,9 @@ use mathlib.Core.Path.{sym, _∙_}
 use native.Mathlib.Omega.{arith}
 use denote.Ref.{now}
 use Rattle.stored.specs.Layout.{limits}
-use Rattle.check_refusals.specs.Tables.{tables}
+use Rattle.mesh_tables.specs.Tables.{tables}
 use Rattle.check_refusals.specs.Bounded.{room}
-use Rattle.check_parents.specs.Pairs.{all-linked}
+use Rattle.mesh_parents.specs.Pairs.{all-linked}
 use Rattle.check_hanging.specs.Hanging.{foundWithin, none-made}
 use Rattle.check_hanging.proofs.first_hanging.Statement.{statement}
 use Rattle.check_hanging.proofs.first_hanging.Tie as tie

@@ -11,10 +11,10 @@ use borrow.Author.Tests.{not-true, not-false}
 use Rattle.laws.specs.Below.{anyBelow, any-none, any-next, any-end}
 use Rattle.laws.specs.Links.{anyAlong, any-along-none, any-along-found, any-along-past, link-down}
 use Rattle.piece.specs.Ends.{endsOf, endsAt, ends-at}
-use Rattle.check_refusals.specs.Tables.{Tables, tables, pieceAt, hasParents, hangs}
-use Rattle.check_refusals.specs.Refusals.{hangsAt, leafHangs}
+use Rattle.mesh_tables.specs.Tables.{Tables, tables, pieceAt, hasParents, hangs, hangsAt, leafHangs}
 use Rattle.check_hanging.specs.declared.Found.the-variants.{Nothing}
-use Rattle.check_hanging.specs.Hanging.{anyLinked, linked-hangs, leaf-not-linked, not-leaf, rests, place-found, none-found}
+use Rattle.check_hanging.specs.Hanging.{rests, place-found, none-found}
+use Rattle.mesh_hanging.specs.Hanging.{anyLinked, linked-hangs, leaf-not-linked, not-leaf}
 use Rattle.check_hanging.proofs.search.Statement.{statement}
 use Rattle.check_hanging.proofs.search.Tie as tie
 

@@ -12,7 +12,7 @@ use Rattle.piece_edges.specs.Edges.{lowSlot, highSlot}
 use Rattle.grid.specs.Places.{pointOf}
 use Rattle.grid_volume.specs.Volume.{sixfoldOf}
 use Rattle.stored.specs.Layout.{vertexIn, recordIn}
-use Rattle.check_refusals.specs.Tables.{sixfoldAt}
+use Rattle.mesh_tables.specs.Tables.{sixfoldAt}
 use Rattle.check_refusals.specs.Refusals.{equalCorners, cornerNotInBase, badPiece, badBaseRecord}
 use Rattle.check_pieces.proofs.bad_base_record.Statement.{statement}
 use Rattle.check_pieces.proofs.bad_base_record.Tie as tie

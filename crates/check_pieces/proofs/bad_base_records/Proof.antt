@@ -7,7 +7,7 @@ use mathlib.Core.Bool.{false}
 use native.Mathlib.Omega.{arith}
 use denote.Ref.{now}
 use Rattle.laws.specs.Below.{anyBelow, any-none, any-next, any-is, any-end}
-use Rattle.check_refusals.specs.Tables.{tables}
+use Rattle.mesh_tables.specs.Tables.{tables}
 use Rattle.check_refusals.specs.Refusals.{badBaseRecord, badBaseRecords}
 use Rattle.check_pieces.proofs.bad_base_records.Statement.{statement}
 use Rattle.check_pieces.proofs.bad_base_records.Tie as tie

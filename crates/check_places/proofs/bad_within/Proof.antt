@@ -8,9 +8,9 @@ use native.Mathlib.Omega.{arith}
 use Rattle.laws.specs.Below.{anyBelow, any-none, any-next, any-is, any-end}
 use Rattle.laws.specs.Links.{kept-none}
 use Rattle.stored.specs.Layout.{limits}
-use Rattle.check_refusals.specs.Tables.{tables}
+use Rattle.mesh_tables.specs.Tables.{tables}
 use Rattle.check_refusals.specs.Refusals.{badVertex, badVertices}
-use Rattle.check_parents.specs.Pairs.{pairHeads, keyOf}
+use Rattle.mesh_parents.specs.Pairs.{pairHeads, keyOf}
 use Rattle.check_places.specs.Kept.{placeHeads, placeKeyOf, VerticesKept, vertex-kept}
 use Rattle.check_places.proofs.bad_within.Statement.{statement}
 use Rattle.check_places.proofs.bad_within.Tie as tie

@@ -2,7 +2,7 @@
 -- Assumes nothing.
 use borrow.Author.Needs.{needs}
 use denote.Ref.{now}
-use Rattle.check_refusals.specs.Tables.{tables}
+use Rattle.mesh_tables.specs.Tables.{tables}
 use Rattle.check_figures.specs.Bounds.{within-is}
 use Rattle.check_service.proofs.accepted_with.Statement.{statement}
 use Rattle.check_service.proofs.accepted_with.Tie as tie

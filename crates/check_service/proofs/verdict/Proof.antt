@@ -6,7 +6,7 @@ use denote.Ref.{now}
 use borrow.Author.Tests.{not-true, not-false}
 use Rattle.check_refusals.specs.Bounded.{bounded}
 use Rattle.check_service.specs.Order.{verdict-1, verdict-2, verdict-3, verdict-rest}
-use Rattle.check_refusals.specs.Tables.{tablesOf}
+use Rattle.mesh_tables.specs.Tables.{tablesOf}
 use Rattle.check_service.proofs.verdict.Statement.{statement}
 use Rattle.check_service.proofs.verdict.Tie as tie
 

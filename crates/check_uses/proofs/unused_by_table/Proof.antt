@@ -10,7 +10,7 @@ use lib.ListN.{getD}
 use denote.Ref.{now}
 use borrow.Author.Tests.{eq-eqb, ne-eqb}
 use Rattle.laws.specs.Below.{anyBelow, any-none, any-next, any-is, any-end, any-same}
-use Rattle.check_refusals.specs.Tables.{tables}
+use Rattle.mesh_tables.specs.Tables.{tables}
 use Rattle.check_refusals.specs.Refusals.{unusedVertex, unusedVertices}
 use Rattle.check_uses.specs.Uses.{unused-is}
 use Rattle.check_uses.proofs.unused_by_table.Statement.{statement}

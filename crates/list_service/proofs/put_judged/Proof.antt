@@ -6,7 +6,7 @@ use mathlib.Core.List.{_++_}
 use native.Mathlib.Omega.{arith}
 use denote.Ref.{now}
 use Rattle.laws.specs.Lists.{Bytes}
-use Rattle.check_refusals.specs.Tables.{tablesOf}
+use Rattle.mesh_tables.specs.Tables.{tablesOf}
 use Rattle.list_lines.specs.Lines.{headingLine}
 use Rattle.list_service.specs.Listing.{leafLines, textOf, judgedLines}
 use Rattle.list_service.specs.Lengths.{heading-fits}

@@ -9,7 +9,7 @@ use denote.Ref.{now}
 use Rattle.laws.specs.Lists.{Bytes}
 use Rattle.stored.specs.Layout.{headerOf, layoutOf}
 use Rattle.stored.specs.Fitting.{record-fits}
-use Rattle.check_refusals.specs.Tables.{tables, tablesOf}
+use Rattle.mesh_tables.specs.Tables.{tables, tablesOf}
 use Rattle.list_service.specs.Listing.{leafLines, textOf}
 use Rattle.list_service.specs.Putting.{TextPut, put-none, put-then, put-length, leaves-none, leaves-next, leaves-long}
 use Rattle.list_service.proofs.put_leaves.Statement.{statement}

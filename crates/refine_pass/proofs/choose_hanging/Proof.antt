@@ -7,9 +7,8 @@ use native.Mathlib.Nat.{le-refl}
 use native.Mathlib.Omega.{arith}
 use lib.ListN.{length, length-set}
 use denote.Ref.{now}
-use Rattle.check_refusals.specs.Tables.{tables, allVertices}
-use Rattle.check_refusals.specs.Refusals.{leafHangs}
-use Rattle.check_hanging.specs.Hanging.{leaf-hangs-along}
+use Rattle.mesh_tables.specs.Tables.{tables, allVertices, leafHangs}
+use Rattle.mesh_hanging.specs.Hanging.{leaf-hangs-along}
 use Rattle.refine_pass.specs.Chosen.{Chosen, chosen-none, chosen-next, chosen-all}
 use Rattle.refine_pass.proofs.choose_hanging.Statement.{statement}
 use Rattle.refine_pass.proofs.choose_hanging.Tie as tie

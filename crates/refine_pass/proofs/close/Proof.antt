@@ -6,7 +6,7 @@ use native.Mathlib.Omega.{arith}
 use lib.ListN.{length}
 use borrow.Author.Tests.{not-true, not-false}
 use Rattle.laws.specs.Counts.{marked}
-use Rattle.check_refusals.specs.Refusals.{leafHangs, hangingEdge}
+use Rattle.mesh_tables.specs.Tables.{leafHangs, hangingEdge}
 use Rattle.refine_cut.specs.Slices.{slices, tablesIn}
 use Rattle.refine_pass.specs.Puts.{closingPut}
 use Rattle.refine_pass.specs.Steps.{pass-same, closing-beyond, closing-none, closing-next, closing-out}

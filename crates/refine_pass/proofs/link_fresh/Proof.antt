@@ -2,7 +2,7 @@
 -- Assumes nothing.
 use borrow.Author.Needs.{needs}
 use denote.Ref.{now}
-use Rattle.check_refusals.specs.Tables.{tables}
+use Rattle.mesh_tables.specs.Tables.{tables}
 use Rattle.refine_pass.specs.Linked.{none-fresh, fresh-linked}
 use Rattle.refine_pass.proofs.link_fresh.Statement.{statement}
 use Rattle.refine_pass.proofs.link_fresh.Tie as tie

@@ -7,7 +7,7 @@ use mathlib.Core.Bool.{false, not}
 use native.Mathlib.Omega.{arith}
 use Rattle.laws.specs.Below.{anyBelow, any-none, any-next, any-is, any-end}
 use Rattle.stored.specs.Layout.{namedIn, recordIn}
-use Rattle.check_refusals.specs.Tables.{uncut}
+use Rattle.mesh_tables.specs.Tables.{uncut}
 use Rattle.refine_selection.specs.Selected.{namesCut}
 use Rattle.refine_selection.proofs.names_cut.Statement.{statement}
 use Rattle.refine_selection.proofs.names_cut.Tie as tie

@@ -5,7 +5,7 @@ use mathlib.Core.Path.{sym, _∙_}
 use denote.Ref.{now}
 use borrow.Author.Tests.{eq-eqb, ne-eqb}
 use Rattle.stored.specs.Layout.{lastRound, namedIn}
-use Rattle.check_refusals.specs.Tables.{tables}
+use Rattle.mesh_tables.specs.Tables.{tables}
 use Rattle.refine_service.specs.Order.{named-15, named-16, named-17, named-18, named-0}
 use Rattle.refine_service.proofs.named.Statement.{statement}
 use Rattle.refine_service.proofs.named.Tie as tie

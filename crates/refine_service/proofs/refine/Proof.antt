@@ -9,7 +9,7 @@ use denote.Ref.{now}
 use Rattle.laws.specs.Lists.{Bytes, clear-itself, clear-long}
 use Rattle.stored.specs.declared.Header.{Header}
 use Rattle.stored.specs.Layout.{layoutOf}
-use Rattle.check_refusals.specs.Tables.{tables, tablesOf}
+use Rattle.mesh_tables.specs.Tables.{tables, tablesOf}
 use Rattle.check_refusals.specs.Check.{checkNumber}
 use Rattle.refine_service.specs.Order.{selectionNumber}
 use Rattle.refine_service.specs.Storing.{Copied, copied-ready, laterNumber, laterBytes, refine-judged, refine-selected, refine-later, refine-later-bytes}

@@ -6,7 +6,7 @@ use denote.Ref.{now}
 use borrow.Author.Tests.{not-true, not-false}
 use Rattle.stored.specs.declared.Selection.{Selection}
 use Rattle.stored.specs.Layout.{namedIn}
-use Rattle.check_refusals.specs.Tables.{tables}
+use Rattle.mesh_tables.specs.Tables.{tables}
 use Rattle.refine_selection.specs.Selected.{anotherJob, anotherRound}
 use Rattle.refine_service.specs.Order.{namedNumber, selection-11, selection-12, selection-13, selection-14, selection-rest}
 use Rattle.refine_service.proofs.selected.Statement.{statement}

@@ -1,0 +1,2 @@
+-- What hangs, along links.
+pub mod Hanging
