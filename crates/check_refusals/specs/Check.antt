@@ -1,7 +1,7 @@
 -- What check answers, for every byte string: document 01, "Numbers we give back".
 use mathlib.Core.Path.{_≡_, sym, _∙_}
 use mathlib.Core.Bool.{cond}
-use mathlib.Core.List.{List, [], _∷_}
+use mathlib.Core.List.{List, [], _∷_, _++_}
 use Prim.Native.Nat.{ℕ}
 use lib.Dec.{eqb}
 use Rattle.laws.specs.Below.{countBelow, greatestBelow, sumBelow, firstBelow}
@@ -13,17 +13,17 @@ use Rattle.check_refusals.specs.declared.Report.{Report}
 use Rattle.mesh_tables.specs.Tables.{Tables, tablesOf, allRecords, uncut, isLeaf, sixfoldAt, hangsAt, leafHangs, hangingEdge}
 use Rattle.check_refusals.specs.Refusals.{wrongLength, wrongMark, wrongCounts, badVertices, badBaseRecords, badBaseMarks, badBaseFaces, unusedVertices, badCuts}
 
+-- Refusals 4 to 8, of the vertices and the base.
+abbrev pub baseRows : Tables → List Row
+baseRows m = row 4 (badVertices m) ∷ row 5 (badBaseRecords m) ∷ row 6 (badBaseMarks m) ∷ row 7 (badBaseFaces m) ∷ row 8 (unusedVertices m) ∷ []
+
+-- 9 and 10, of the cuts.
+abbrev pub cutRows : Tables → List Row
+cutRows m = row 9 (badCuts m) ∷ row 10 (hangingEdge m) ∷ []
+
 -- Refusals 4 to 10, of the tables.
 unfoldable pub tableRows : Tables → List Row
-tableRows m =
-    row 4 (badVertices m)
-    ∷ row 5 (badBaseRecords m)
-    ∷ row 6 (badBaseMarks m)
-    ∷ row 7 (badBaseFaces m)
-    ∷ row 8 (unusedVertices m)
-    ∷ row 9 (badCuts m)
-    ∷ row 10 (hangingEdge m)
-    ∷ []
+tableRows m = baseRows m ++ cutRows m
 
 -- Refusals 1 to 10 in the order of the numbers.
 unfoldable pub rows : List ℕ → List Row

@@ -1,26 +1,48 @@
 -- The rules in their order, as the code tries them.
-use mathlib.Core.Path.{_≡_, sym, _∙_}
-use mathlib.Core.Bool.{true, false, cond}
+use mathlib.Core.Path.{_≡_, refl, sym, _∙_}
+use mathlib.Core.Bool.{true, false, not, cond}
+use mathlib.Core.Logic.{⊎-elim}
 use mathlib.Core.List.{List}
 use Prim.Native.Nat.{ℕ}
-use Rattle.laws.specs.Order.{firstBroken, in-turn}
+use lib.Dec.{eqb}
+use borrow.Author.Tests.{not-true}
+use Rattle.laws.specs.Below.{either}
+use Rattle.laws.specs.Order.{firstBroken, given-passes, in-turn, one-after-other}
 use Rattle.stored.specs.Layout.{limits, headerOf, rightLength, rightMark}
 use Rattle.check_hanging.specs.Hanging.{foundOf, reported, found-reported}
 use Rattle.mesh_tables.specs.Tables.{Tables, tablesOf}
 use Rattle.check_refusals.specs.declared.Report.{Report}
 use Rattle.check_refusals.specs.Refusals.{wrongLength, wrongMark, wrongCounts, badVertices, badBaseRecords, badBaseMarks, badBaseFaces, unusedVertices, badCuts}
-use Rattle.check_refusals.specs.Check.{tableRows, rows, checkNumber, refusedWith, reportOf, checkOf}
+use Rattle.check_refusals.specs.Check.{baseRows, cutRows, tableRows, rows, checkNumber, refusedWith, reportOf, checkOf}
 use Rattle.check_service.specs.Verdict.{withoutFigures}
 
--- Refusals 4 to 10, tried in their order, or 0.
+-- Refusals 4 to 8, tried in their order, or 0.
+unfoldable pub baseNumber : Tables → ℕ
+baseNumber m = firstBroken (baseRows m)
+
+-- 9 and 10, or none.
+unfoldable pub cutsReport : Tables → Report
+cutsReport m = cond (badCuts m) (refusedWith 9) (reported (foundOf m))
+
+-- 4 to 10, or none.
 unfoldable pub judgedReport : Tables → Report
-judgedReport m =
-    cond (badVertices m) (refusedWith 4)
-    (cond (badBaseRecords m) (refusedWith 5)
-    (cond (badBaseMarks m) (refusedWith 6)
-    (cond (badBaseFaces m) (refusedWith 7)
-    (cond (unusedVertices m) (refusedWith 8)
-    (cond (badCuts m) (refusedWith 9) (reported (foundOf m)))))))
+judgedReport m = let later = cutsReport m in cond (eqb (baseNumber m) 0) later (refusedWith (baseNumber m))
+
+module _ (m : Tables) where
+  cuts-reported : cutsReport m ≡ withoutFigures (reportOf m (firstBroken (cutRows m)))
+  unfolding cutsReport reportOf
+  cuts-reported = rw (found-reported m) (sym (in-turn (λ n. withoutFigures (reportOf m n)) (cutRows m)))
+
+  -- A refusal of the base is neither 0 nor 10, which alone are reported with more than their number.
+  base-reported : eqb (baseNumber m) 0 ≡ false → refusedWith (baseNumber m) ≡ withoutFigures (reportOf m (baseNumber m))
+  unfolding reportOf baseNumber
+  base-reported e = rw (e, not-true (eqb (firstBroken (baseRows m)) 10) (given-passes (λ k. not (eqb k 10)) (baseRows m) refl))
+
+  judged-reported : judgedReport m ≡ withoutFigures (reportOf m (firstBroken (tableRows m)))
+  unfolding judgedReport tableRows baseNumber
+  judged-reported =
+      rw (one-after-other (baseRows m) (cutRows m) refl)
+      (⊎-elim (λ t. rw t cuts-reported) (λ f. rw f (base-reported f)) (either (eqb (firstBroken (baseRows m)) 0)))
 
 module _ (s : List ℕ) where
   pub verdict-1 : rightLength s ≡ false → refusedWith 1 ≡ withoutFigures (checkOf s)
@@ -36,13 +58,12 @@ module _ (s : List ℕ) where
   verdict-3 e f g = rw (e, f, g)
 
   pub verdict-rest : rightLength s ≡ true → rightMark s ≡ true → wrongCounts limits (headerOf s) ≡ false → judgedReport (tablesOf s) ≡ withoutFigures (checkOf s)
-  unfolding checkOf checkNumber rows firstBroken reportOf wrongLength wrongMark judgedReport tableRows
-  verdict-rest e f g =
-      let m = tablesOf s in rw (e, f, g, found-reported m) (sym (in-turn (λ n. withoutFigures (reportOf m n)) (tableRows m)))
+  unfolding checkOf checkNumber rows firstBroken wrongLength wrongMark
+  verdict-rest e f g = rw (e, f, g) (judged-reported (tablesOf s))
 
   -- Where rules 1 to 9 hold, what check reports, but for the figures, is the paper's number and values for what the search found.
   pub verdict-found : rightLength s ≡ true → rightMark s ≡ true → wrongCounts limits (headerOf s) ≡ false → let m = tablesOf s in
       badVertices m ≡ false → badBaseRecords m ≡ false → badBaseMarks m ≡ false → badBaseFaces m ≡ false → unusedVertices m ≡ false → badCuts m ≡ false →
       withoutFigures (checkOf s) ≡ reported (foundOf m)
-  unfolding judgedReport
+  unfolding judgedReport cutsReport baseNumber firstBroken
   verdict-found b₁ b₂ b₃ b₄ b₅ b₆ b₇ b₈ b₉ = sym (verdict-rest b₁ b₂ b₃) ∙ rw (b₄, b₅, b₆, b₇, b₈, b₉)

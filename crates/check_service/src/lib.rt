@@ -11,7 +11,7 @@ ghost use Rattle.check_refusals.specs.Check.{refusedWith, accepted, CheckOutcom
 ghost use Rattle.check_refusals.specs.Bounded.{Bounded};
 ghost use Rattle.check_hanging.specs.Hanging.{foundOf, noneBroken, reported};
 ghost use Rattle.check_service.specs.Verdict.{VerdictIs};
-ghost use Rattle.check_service.specs.Order.{judgedReport};
+ghost use Rattle.check_service.specs.Order.{baseNumber, cutsReport, judgedReport};
 
 fn refused(number: u64) -> Report
     ensures { λ r. ⌜ r ≡ refusedWith number ⌝ }
@@ -74,30 +74,50 @@ fn closed<'a>(h: Header, l: Layout, base: &'a [u8], grown: &'a [u8]) -> Report
     }
 }
 
-// Refusals 4 to 10, tried in their order, or none.
-fn judged<'a>(h: Header, l: Layout, base: &'a [u8], grown: &'a [u8]) -> Report
+// Refusals 4 to 8, of the vertices and the base, tried in their order, or 0.
+fn judged_base<'a>(h: Header, l: Layout, base: &'a [u8], grown: &'a [u8]) -> u64
     requires { ⌜ Bounded h ⌝ }
-    ensures { λ r. ⌜ r ≡ judgedReport (tables h l (now (base .entry)) (now (grown .entry))) ⌝ }
+    ensures { λ r. ⌜ r ≡ baseNumber (tables h l (now (base .entry)) (now (grown .entry))) ⌝ }
 {
     if check_places::bad_vertices(h, l, base, grown) {
-        return refused(4);
+        return 4;
     }
     if check_pieces::bad_base_records(h, l, base, grown) {
-        return refused(5);
+        return 5;
     }
     if check_marks::bad_base_marks(h, l, base, grown) {
-        return refused(6);
+        return 6;
     }
     if check_faces::bad_base_faces(h, l, base, grown) {
-        return refused(7);
+        return 7;
     }
     if check_uses::unused_vertices(h, l, base, grown) {
-        return refused(8);
+        return 8;
     }
+    0
+}
+
+// Refusals 9 and 10, of the cuts, tried in their order, or none.
+fn judged_cuts<'a>(h: Header, l: Layout, base: &'a [u8], grown: &'a [u8]) -> Report
+    requires { ⌜ Bounded h ⌝ }
+    ensures { λ r. ⌜ r ≡ cutsReport (tables h l (now (base .entry)) (now (grown .entry))) ⌝ }
+{
     if check_children::bad_cuts(h, l, base, grown) {
         return refused(9);
     }
     closed(h, l, base, grown)
+}
+
+// Refusals 4 to 10, or none.
+fn judged<'a>(h: Header, l: Layout, base: &'a [u8], grown: &'a [u8]) -> Report
+    requires { ⌜ Bounded h ⌝ }
+    ensures { λ r. ⌜ r ≡ judgedReport (tables h l (now (base .entry)) (now (grown .entry))) ⌝ }
+{
+    let number = judged_base(h, l, base, grown);
+    if number != 0 {
+        return refused(number);
+    }
+    judged_cuts(h, l, base, grown)
 }
 
 // Check's answer without the figures.
