@@ -13,8 +13,8 @@ use borrow.Author.Tests.{eqb-true, eqb-false, ne-eqb, lt-ltb, le-ltb, ltb-false,
 use Rattle.laws.specs.Below.{either, list-length}
 use Rattle.laws.specs.Order.{OneOf, one-of-them, brokenAt, none-broken}
 use Rattle.laws.specs.Lists.{zeroPast, Bytes, joined, joined-length}
-use Rattle.stored.specs.Layout.{vertexWidth, recordWidth, limits, lastRound, meshLength, headerOf, headerBytes, vertexBytes, recordBytes, Mesh, meshBytes}
-use Rattle.stored.specs.Fitting.{HeaderFits, header-fits}
+use Rattle.stored.specs.Layout.{vertexWidth, recordWidth, limits, meshLength, headerOf, headerBytes, vertexBytes, recordBytes, Mesh, meshBytes}
+use Rattle.stored.specs.Fitting.{HeaderFits, header-fits, round-fits}
 use Rattle.stored.specs.Entries.{header-wide, vertex-wide, record-wide, header-again}
 use Rattle.check_refusals.specs.declared.Report.{Report}
 use Rattle.mesh_tables.specs.Tables.{Tables, tablesOf, allRecords, isLeaf, pieceAt}
@@ -29,10 +29,9 @@ use Rattle.build_meaning.specs.Accepts.{passed, build-fits, check-accepts}
 use Rattle.build_meaning.specs.Output as Build
 use Rattle.refine_pass.specs.Law.{within}
 use Rattle.refine_service.specs.Refine.{closed, resultOf, resultRows, refineNumber, refineBytes}
-use Rattle.refine_service.specs.Order.{selectionNumber, not-last}
 use Rattle.refine_service.specs.Storing.{laterNumber, storedNumber, refine-none}
 use Rattle.refine_meaning.specs.Answer as Refine
-use Rattle.refine_meaning.specs.Answer.{job-kept, round-next, base-vertices-kept, base-records-kept}
+use Rattle.refine_meaning.specs.Answer.{job-kept, base-vertices-kept, base-records-kept}
 use Rattle.list_text.specs.Text.{lineFeed, figures}
 use Rattle.list_lines.specs.Lines.{refusedLine, countFigures, checkFigures, headingLine, cornerFigures, edgeFigures, leafLine}
 use Rattle.list_service.specs.Listing.{leafLines, meshLines, judgedLines, linesOf}
@@ -164,10 +163,7 @@ module _ (mesh selection : List ℕ) (room : ℕ) where
   refine-refused n = Refine.refused-bytes mesh selection room (ne-eqb number 0 n)
 
   module _ (e : refineNumber mesh selection room ≡ 0) where
-    -- The selection can be used, and the result is neither too large for the tables nor for the buffer.
-    selected : selectionNumber (tablesOf mesh) selection ≡ 0
-    selected = refine-none mesh selection room .0 e .1 .0
-
+    -- The result is neither too large for the tables nor for the buffer.
     stored : (n : ℕ) → brokenAt (resultRows (closed mesh selection .header) room) n ≡ false
     unfolding laterNumber storedNumber resultRows
     stored = none-broken (resultRows (closed mesh selection .header) room) refl (refine-none mesh selection room .0 e .1 .1)
@@ -183,20 +179,17 @@ module _ (mesh selection : List ℕ) (room : ℕ) where
         omega (arith, refined-as-long mesh selection, ltb-false room (meshLength (h .vertices) (h .records)) (stored 20))
 
     pub refined-header : Bytes mesh → headerOf (refineBytes mesh selection room) ≡ resultOf (closed mesh selection) .header
-    unfolding tablesOf
+    unfolding resultOf
     refined-header b = ap headerOf (Refine.accepted-bytes mesh selection room e) ∙ header-first result fits _
       where
         given : HeaderFits (headerOf mesh)
         given = header-fits mesh b
 
-        last : headerOf mesh .round ≢ lastRound
-        last = eqb-false (headerOf mesh .round) lastRound (not-last (tablesOf mesh) selection selected)
-
         fits : HeaderFits (result .header)
         fits =
             record {
               job = omega (arith, job-kept mesh selection, given .job);
-              round = omega (arith, round-next mesh selection, given .round, last);
+              round = round-fits (closed mesh selection .header .round);
               baseVertices = omega (arith, base-vertices-kept mesh selection, given .baseVertices);
               vertices = omega (arith, refined-few .0);
               baseRecords = omega (arith, base-records-kept mesh selection, given .baseRecords);

@@ -8,7 +8,7 @@ use Prim.Native.Nat.{ℕ, _+_, _<_, _≤_}
 use native.Mathlib.Omega.{arith}
 use lib.Dec.{eqb, leb, ltb}
 use borrow.Author.Tests.{eqb-true, leb-true}
-use Rattle.demands_words.specs.Words.{fullSize, RightSelectionLength, RightSelectionMark}
+use Rattle.demands_words.specs.Words.{fullSize}
 use Rattle.laws.specs.Below.{either, or-second}
 use Rattle.laws.specs.Order.{Rule, rule, Giving, Judged, judge, done, judged-then, given-exactly, accepted-exactly, given-passes, OneOf, one-of-them}
 use Rattle.stored.specs.declared.Limits.{Limits}
@@ -18,13 +18,13 @@ use Rattle.check_refusals.specs.Check.{rows, tableRows, checkNumber}
 use Rattle.check_meaning.specs.Tests.{Fails, reads, not-below, or-fails}
 use Rattle.check_meaning.specs.Accepted.{Within, Accepted}
 use Rattle.check_meaning.specs.Exactly.{checkRules, check-judged, accepts-exactly}
-use Rattle.refine_selection.specs.Selected.{anotherRound}
+use Rattle.refine_selection.specs.Selected.{anotherRound, selectionRows, roundRow}
 use Rattle.refine_pass.specs.Passes.{exceeds}
-use Rattle.refine_service.specs.Refine.{closed, resultOf, selectionRows, resultRows, refineNumber}
+use Rattle.refine_service.specs.Refine.{closed, refineSelectionRows, resultRows, refineNumber}
 use Rattle.refine_service.specs.Order.{selectionNumber}
 use Rattle.refine_service.specs.Storing.{storedNumber, laterNumber, refine-none, refine-selected, refine-later}
-use Rattle.refine_meaning.specs.Answer.{another-round-refused, job-kept, round-next}
-use Rattle.demands_proofs.specs.Selections.{SameJob, SameRound, RightNumbers, NamesLeaves, NamesNoneLast, RoundRises, EarnsNone, length-passes, mark-passes, rule11-holds, rule12-holds, rule13-holds, rule14-holds, rule15-holds, rule16-holds, rule17-holds, rule18-holds}
+use Rattle.refine_meaning.specs.Answer.{another-round-refused}
+use Rattle.demands_proofs.specs.Selections.{NamesLeaves, NamesNoneLast, RoundRises, EarnsNone, selectionRules, selection-judged, length-passes, mark-passes, rule13-holds, rule14-holds, rule16-holds, rule17-holds, rule18-holds}
 
 -- ---- what the rules ask
 
@@ -32,18 +32,10 @@ use Rattle.demands_proofs.specs.Selections.{SameJob, SameRound, RightNum
 abbrev pub resultLength : Tables → ℕ
 resultLength m = meshLength (allVertices m) (allRecords m)
 
--- 11 to 18, of the mesh and the selection.
-abbrev pub selectionRules : Tables → List ℕ → List Rule
-selectionRules m selection =
-    rule 11 (RightSelectionLength selection)
-    ∷ rule 12 (RightSelectionMark selection)
-    ∷ rule 13 (SameJob m selection)
-    ∷ rule 14 (SameRound m selection)
-    ∷ rule 15 (RightNumbers m selection)
-    ∷ rule 16 (NamesLeaves m selection)
-    ∷ rule 17 (NamesNoneLast m selection)
-    ∷ rule 18 (RoundRises m)
-    ∷ []
+-- 11 to 18, of the mesh and the selection: 16 and 17 are refine's own.
+abbrev pub refineSelectionRules : Tables → List ℕ → List Rule
+refineSelectionRules m selection =
+    selectionRules m selection ++ (rule 16 (NamesLeaves m selection) ∷ rule 17 (NamesNoneLast m selection) ∷ rule 18 (RoundRises m) ∷ [])
 
 -- 19: no "closed result exceeds 1,024 vertices or 3,072 records"; 20: no "output buffer is shorter than the result".
 abbrev pub resultRules : Tables → ℕ → List Rule
@@ -51,7 +43,7 @@ resultRules m room = rule 19 (Within limits m) ∷ rule 20 (resultLength m ≤ r
 
 -- What refine's rules ask, in the order in which they are tried; the first ten are check's own.
 abbrev pub refineRules : List ℕ → List ℕ → ℕ → List Rule
-refineRules mesh selection room = checkRules mesh ++ (selectionRules (tablesOf mesh) selection ++ resultRules (closed mesh selection) room)
+refineRules mesh selection room = checkRules mesh ++ (refineSelectionRules (tablesOf mesh) selection ++ resultRules (closed mesh selection) room)
 
 -- All twenty, named.
 pub record RefineAccepts (mesh selection : List ℕ) (room : ℕ) : Type 0 where
@@ -77,27 +69,27 @@ pub rule20-holds : (m : Tables) (room : ℕ) → Fails (ltb room (resultLength m
 rule20-holds m room = not-below room (resultLength m)
 
 module _ (m : Tables) (selection : List ℕ) where
-  selection-judged : Judged (selectionRows m selection) (selectionRules m selection)
-  unfolding selectionRows
-  selection-judged =
-      judge (rule11-holds selection) λ h11. judge (rule12-holds selection) λ h12. judge (rule13-holds m selection) λ h13. judge (rule14-holds m selection) λ h14.
-      judge (rule15-holds m selection) λ h15. judge (rule16-holds m selection) λ h16. judge (rule17-holds m selection) λ h17. judge (rule18-holds m) λ h18. done
+  refine-selection-judged : Judged (refineSelectionRows m selection) (refineSelectionRules m selection)
+  unfolding refineSelectionRows roundRow
+  refine-selection-judged =
+      judged-then (selection-judged m selection) λ right.
+      judge (rule16-holds m selection) λ h16. judge (rule17-holds m selection) λ h17. judge (rule18-holds m) λ h18. done
 
   -- None of 11 to 18 is given exactly where the selection is good.
   selection-exactly : (selectionNumber m selection ≡ 0) ↔ EarnsNone m selection
-  unfolding selectionNumber selectionRows
+  unfolding selectionNumber refineSelectionRows selectionRows roundRow
   selection-exactly =
-      reads (accepted-exactly selection-judged refl)
+      reads (accepted-exactly refine-selection-judged refl)
       (λ (h11, (h12, (h13, (h14, (h15, (h16, (h17, (h18, end)))))))).
       record { length = h11; mark = h12; job = h13; round = h14; numbers = h15; leaves = h16; not-last = h17; round-rises = h18 })
       (λ g. (g .length, (g .mark, (g .job, (g .round, (g .numbers, (g .leaves, (g .not-last, (g .round-rises, tt)))))))))
 
   selection-within : eqb (selectionNumber m selection) 0 ≡ false → (11 ≤ selectionNumber m selection) × (selectionNumber m selection ≤ 18)
-  unfolding selectionNumber selectionRows
+  unfolding selectionNumber refineSelectionRows selectionRows roundRow
   selection-within other =
       let n = selectionNumber m selection in (
-        leb-true 11 n (or-second (eqb n 0) (leb 11 n) other (given-passes (λ k. eqb k 0 || leb 11 k) (selectionRows m selection) refl)),
-        leb-true n 18 (given-passes (λ k. leb k 18) (selectionRows m selection) refl),
+        leb-true 11 n (or-second (eqb n 0) (leb 11 n) other (given-passes (λ k. eqb k 0 || leb 11 k) (refineSelectionRows m selection) refl)),
+        leb-true n 18 (given-passes (λ k. leb k 18) (refineSelectionRows m selection) refl),
       )
 
 result-judged : (m : Tables) (room : ℕ) → Judged (resultRows (m .header) room) (resultRules m room)
@@ -109,10 +101,10 @@ result-judged m room = judge (rule19-holds limits m) λ h19. judge (rule20-holds
 module _ (mesh selection : List ℕ) (room : ℕ) where
   -- Refine gives a number exactly where every rule before it holds and its own does not.
   pub refine-refuses-exactly : (n : ℕ) → (refineNumber mesh selection room ≡ n) ↔ Giving (refineRules mesh selection room) n
-  unfolding refineNumber rows tableRows selectionRows resultRows
+  unfolding refineNumber rows tableRows refineSelectionRows selectionRows roundRow resultRows
   refine-refuses-exactly =
       given-exactly
-      (judged-then (check-judged mesh) λ accepted. judged-then (selection-judged (tablesOf mesh) selection) λ good. result-judged (closed mesh selection) room)
+      (judged-then (check-judged mesh) λ accepted. judged-then (refine-selection-judged (tablesOf mesh) selection) λ good. result-judged (closed mesh selection) room)
       refl
 
   later-exactly : (n : ℕ) → (laterNumber mesh selection room ≡ n) ↔ Giving (resultRules (closed mesh selection) room) n
@@ -199,15 +191,3 @@ used-gets-14 mesh selection room e later accepted job above any =
     (mark-passes selection .1 (g .mark))
     (rule13-holds (tablesOf later) selection .1 (g .job ∙ sym job))
     (⊎-elim (λ t. t) (λ f. let same : selectionOf selection .round ≡ headerOf later .round = right f in absurd (omega (arith, same, above))) (either (anotherRound (headerOf later) (selectionOf selection))))
-
--- So from the result and from all that follows: from every mesh of the result's job that check accepts and whose round is the result's, or k
--- rounds later.
-pub used-gets-14-after : (mesh selection : List ℕ) (room : ℕ) → refineNumber mesh selection room ≡ 0 →
-    (later : List ℕ) (k : ℕ) → checkNumber later ≡ 0 → headerOf later .job ≡ resultOf (closed mesh selection) .header .job → headerOf later .round ≡ resultOf (closed mesh selection) .header .round + k →
-    (any : ℕ) → refineNumber later selection any ≡ 14
-unfolding tablesOf
-used-gets-14-after mesh selection room e later k accepted job round any =
-    let g = refine-accepts-all mesh selection room .0 e .good in
-    let same : selectionOf selection .round ≡ headerOf mesh .round = g .round in
-    let next = round-next mesh selection in
-    used-gets-14 mesh selection room e later accepted (job ∙ job-kept mesh selection) (omega (arith, same, next, round)) any

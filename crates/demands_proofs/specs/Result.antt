@@ -6,14 +6,14 @@ use mathlib.Core.List.{List}
 use Prim.Native.Nat.{ℕ, _+_, _≤_, _<_}
 use native.Mathlib.Omega.{arith}
 use borrow.Author.Tests.{lt-ltb}
-use Rattle.stored.specs.Fitting.{U16}
+use Rattle.stored.specs.Fitting.{round-rises}
 use Rattle.piece.specs.Shape.{lastGeneration}
 use Rattle.grid.specs.declared.Place.{Place}
 use Rattle.grid.specs.Places.{pointOf, halfwayOf}
 use Rattle.grid.specs.Corners.{Midpoint}
 use Rattle.grid.specs.GridTheorems.{halfway-exactly, halfway-only}
 use Rattle.stored.specs.declared.Vertex.{Vertex}
-use Rattle.stored.specs.Layout.{none, limits, lastRound, meshBytes}
+use Rattle.stored.specs.Layout.{none, limits, lastRound, roundAfter, meshBytes}
 use Rattle.mesh_tables.specs.Tables as Check
 use Rattle.mesh_tables.specs.Tables.{baseVertices, allVertices, allRecords, pieceAt}
 use Rattle.check_meaning.specs.Accepted.{pointAt, parentP, parentQ}
@@ -148,15 +148,15 @@ module _ (s : List ℕ) (x : StoredMesh s) (selection : List ℕ) (good : GoodSe
   numbered : VerticesNumbered b D (numbersOf t)
   numbered = grown-vertices t b D g base-vertices base-place exactly
 
-  round-fits : U16 (x .round + 1)
-  round-fits = let apart : x .round ≢ lastRound = good .not-last-round in omega (arith, x .stores .round-fits)
+  not-last : x .round < lastRound
+  not-last = let apart : x .round ≢ lastRound = good .not-last-round in omega (arith, x .stores .round-fits)
 
   pub result-stores : Stores (meshBytes (resultOf t)) (x .job) (x .round + 1) b D
   unfolding resultOf
   result-stores =
-      grown-stores t b D g base-vertices (x .job) (x .round + 1) (x .stores .job-fits) round-fits
+      grown-stores t b D g base-vertices (x .job) (x .round + 1) (x .stores .job-fits) (omega (arith, not-last))
       (job-stays limits (From.chosen s x selection good) m ∙ From.stored-job s x)
-      (ap (λ (r : ℕ). r + 1) (round-stays limits (From.chosen s x selection good) m ∙ From.stored-round s x))
+      (ap roundAfter (round-stays limits (From.chosen s x selection good) m ∙ From.stored-round s x) ∙ round-rises (x .round) not-last)
       base-parents four numbered
 
   -- Where the tables do not exceed their limits, the set is a right one.

@@ -1,20 +1,21 @@
--- What refusals 11 to 18 leave of a selection, in document 01's words: of each row of "Numbering we give back" what holds where it is not
+-- What refusals 11 to 18 leave of a selection, in document 01's words: of each row of "Numbers we give back" what holds where it is not
 -- given, as plain statements about the selection's bytes and the mesh's tables, and that the row's test fails exactly there. Assumes nothing.
 use mathlib.Core.Path.{_≡_, sym, subst}
 use mathlib.Core.Logic.{_≢_, ⊎-elim}
-use mathlib.Core.List.{List}
+use mathlib.Core.List.{List, [], _∷_}
 use Prim.Native.Nat.{ℕ, zero, suc, _+_, _*_, _<_}
 use native.Mathlib.Nat.{not-suc-le-zero, eq-or-lt-of-le, le-of-suc-le-suc}
 use native.Mathlib.Numerals.{add-one}
 use native.Mathlib.Omega.{arith}
 use lib.ListN.{length}
 use lib.Dec.{eqb}
+use Rattle.laws.specs.Order.{Rule, rule, Judged, judge, done}
 use Rattle.piece.specs.Shape.{lastGeneration}
 use Rattle.stored.specs.Layout.{none, lastRound, byteAt, u16At, marked, rightSelectionLength, rightSelectionMark, selectionOf, namedIn}
 use Rattle.mesh_tables.specs.Tables.{Tables, allRecords, pieceAt}
 use Rattle.check_meaning.specs.Tests.{Passes, Fails, reads, equal, at-most, below, not-at-most, fails-unless, not-fails, and-passes, and-fails, or-fails, none-passes}
 use Rattle.check_meaning.specs.Accepted.{firstChild, Leaf}
-use Rattle.refine_selection.specs.Selected.{wrongSelectionLength, wrongSelectionMark, anotherJob, anotherRound, badNumber, badNumbers, namesCut, namesLast}
+use Rattle.refine_selection.specs.Selected.{wrongSelectionLength, wrongSelectionMark, anotherJob, anotherRound, badNumber, badNumbers, selectionRows, namesCut, namesLast}
 use Rattle.demands_words.specs.Words.{countIn, RightSelectionLength, RightSelectionMark}
 
 -- ---- 13 and 14: the job and the round
@@ -50,6 +51,16 @@ abbrev pub RoundRises : Tables → Type 0
 RoundRises m = m .header .round ≢ lastRound
 
 -- ---- all eight
+
+-- 11 to 15, of the mesh and every selection.
+abbrev pub selectionRules : Tables → List ℕ → List Rule
+selectionRules m selection =
+    rule 11 (RightSelectionLength selection)
+    ∷ rule 12 (RightSelectionMark selection)
+    ∷ rule 13 (SameJob m selection)
+    ∷ rule 14 (SameRound m selection)
+    ∷ rule 15 (RightNumbers m selection)
+    ∷ []
 
 -- The selection earns none of 11 to 18 from the mesh.
 pub record EarnsNone (m : Tables) (selection : List ℕ) : Type 0 where
@@ -122,6 +133,11 @@ module _ (m : Tables) (t : List ℕ) where
       (λ i l. or-fails (not-at-most (allRecords m) (namedIn t i)) (and-fails (below (i + 1) (countIn t)) (not-at-most (namedIn t (i + 1)) (namedIn t i)))))
       (λ h. record { rising = rises (λ i l. h i (omega arith) .1 l); there = λ i l. h i l .0 })
       (λ r i l. (r .there i l, λ b. r .rising i (i + 1) (omega arith) b))
+
+  pub selection-judged : Judged (selectionRows (m .header) t) (selectionRules m t)
+  unfolding selectionRows
+  selection-judged =
+      judge (rule11-holds t) λ h11. judge (rule12-holds t) λ h12. judge rule13-holds λ h13. judge rule14-holds λ h14. judge rule15-holds λ h15. done
 
   pub rule16-holds : Fails (namesCut (m .recordAt) (selectionOf t .count) (namedIn t)) (NamesLeaves m t)
   unfolding namesCut

@@ -2,28 +2,29 @@
 use mathlib.Core.Path.{_≡_, refl, sym, ap, _∙_}
 use mathlib.Core.Bool.{true, false}
 use mathlib.Core.List.{List, _++_}
-use Prim.Native.Nat.{ℕ, _+_, _≤_}
+use Prim.Native.Nat.{ℕ, _+_, _≤_, _<_}
 use lib.ListN.{replicate}
 use lib.Dec.{eqb, leb}
 use borrow.Author.Tests.{leb-true}
 use Rattle.laws.specs.Lists.{zeroPast}
-use Rattle.laws.specs.Order.{given-passes}
-use Rattle.stored.specs.Layout.{limits, headerOf, meshBytes, rightSelectionLength, rightSelectionMark, selectionOf, namedIn}
+use Rattle.laws.specs.Order.{firstBroken, given-passes}
+use Rattle.stored.specs.Layout.{limits, lastRound, roundAfter, headerOf, meshBytes, rightSelectionLength, rightSelectionMark, selectionOf, namedIn}
+use Rattle.stored.specs.Fitting.{round-rises}
 use Rattle.mesh_tables.specs.Tables.{tablesOf}
 use Rattle.check_refusals.specs.Check.{rows, tableRows, checkNumber}
-use Rattle.refine_selection.specs.Selected.{anotherJob, anotherRound, isNamed}
+use Rattle.refine_selection.specs.Selected.{wrongSelectionLength, wrongSelectionMark, anotherJob, anotherRound, selectionRows, roundRow, isNamed}
 use Rattle.refine_pass.specs.Stays.{job-stays, round-stays, base-vertices-stay, base-records-stay}
-use Rattle.refine_service.specs.Refine.{closed, resultOf, selectionRows, resultRows, refineNumber, refineBytes}
-use Rattle.refine_service.specs.Order.{selectionNumber, selection-13, selection-14}
+use Rattle.refine_service.specs.Refine.{closed, resultOf, refineSelectionRows, resultRows, refineNumber, refineBytes}
+use Rattle.refine_service.specs.Order.{selectionNumber}
 use Rattle.refine_service.specs.Storing.{refine-selected}
 
 module _ (mesh selection : List ℕ) (room : ℕ) where
   -- "Refine gives 1 to 20", or 0.
   pub number-at-most : refineNumber mesh selection room ≤ 20
-  unfolding refineNumber rows tableRows selectionRows resultRows
+  unfolding refineNumber rows tableRows refineSelectionRows selectionRows roundRow resultRows
   number-at-most =
       leb-true (refineNumber mesh selection room) 20
-      (given-passes (λ n. leb n 20) (rows mesh ++ (selectionRows (tablesOf mesh) selection ++ resultRows (closed mesh selection .header) room)) refl)
+      (given-passes (λ n. leb n 20) (rows mesh ++ (refineSelectionRows (tablesOf mesh) selection ++ resultRows (closed mesh selection .header) room)) refl)
 
   -- "After a refusal the output buffer is zero throughout"
   pub refused-bytes : eqb (refineNumber mesh selection room) 0 ≡ false → refineBytes mesh selection room ≡ replicate room 0
@@ -39,16 +40,16 @@ module _ (mesh selection : List ℕ) (room : ℕ) where
   -- On an accepted mesh a whole selection of another job gets 13, whatever else it says.
   module _ (accepted : checkNumber mesh ≡ 0) (whole : rightSelectionLength selection ≡ true) (marked : rightSelectionMark selection ≡ true) where
     pub another-job-refused : anotherJob (headerOf mesh) (selectionOf selection) ≡ true → refineNumber mesh selection room ≡ 13
-    unfolding tablesOf
+    unfolding tablesOf selectionNumber refineSelectionRows selectionRows firstBroken wrongSelectionLength wrongSelectionMark
     another-job-refused e =
-        let found : 13 ≡ selectionNumber (tablesOf mesh) selection = selection-13 (tablesOf mesh) selection whole marked e in
+        let found : 13 ≡ selectionNumber (tablesOf mesh) selection = rw (whole, marked, e) in
         sym (found ∙ refine-selected mesh selection room accepted (rw (← found)) .0)
 
     -- And one of this job and another round 14: a choice is dead as soon as a refinement is accepted.
     pub another-round-refused : anotherJob (headerOf mesh) (selectionOf selection) ≡ false → anotherRound (headerOf mesh) (selectionOf selection) ≡ true → refineNumber mesh selection room ≡ 14
-    unfolding tablesOf
+    unfolding tablesOf selectionNumber refineSelectionRows selectionRows firstBroken wrongSelectionLength wrongSelectionMark
     another-round-refused j e =
-        let found : 14 ≡ selectionNumber (tablesOf mesh) selection = selection-14 (tablesOf mesh) selection whole marked j e in
+        let found : 14 ≡ selectionNumber (tablesOf mesh) selection = rw (whole, marked, j, e) in
         sym (found ∙ refine-selected mesh selection room accepted (rw (← found)) .0)
 
 -- "The round rises by 1"; the job and the base counts stay.
@@ -57,9 +58,9 @@ module _ (mesh selection : List ℕ) where
   unfolding resultOf closed tablesOf
   job-kept = job-stays limits (isNamed (selectionOf selection .count) (namedIn selection)) (tablesOf mesh)
 
-  pub round-next : resultOf (closed mesh selection) .header .round ≡ headerOf mesh .round + 1
+  pub round-next : headerOf mesh .round < lastRound → resultOf (closed mesh selection) .header .round ≡ headerOf mesh .round + 1
   unfolding resultOf closed tablesOf
-  round-next = ap (λ (r : ℕ). r + 1) (round-stays limits (isNamed (selectionOf selection .count) (namedIn selection)) (tablesOf mesh))
+  round-next l = ap roundAfter (round-stays limits (isNamed (selectionOf selection .count) (namedIn selection)) (tablesOf mesh)) ∙ round-rises (headerOf mesh .round) l
 
   pub base-vertices-kept : resultOf (closed mesh selection) .header .«base_vertices» ≡ headerOf mesh .«base_vertices»
   unfolding resultOf closed tablesOf

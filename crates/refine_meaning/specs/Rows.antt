@@ -19,10 +19,10 @@ use Rattle.mesh_tables.specs.Tables.{tablesOf, hasParents, vertexWith, hangs, s
 use Rattle.check_refusals.specs.Refusals.{wrongLength, wrongMark, wrongCounts, badVertices, badVertex, badBaseVertex, placeTwice, badMadeVertex, pairTwice, badBaseRecords, badBaseRecord, badPiece, equalCorners, cornerNotInBase, badBaseMarks, badMarks, badBaseFaces, badFaces, badWith, badTogether, faceInThree, faceBefore, hasFace, sameFace, faceWithin, faceHas, sameCorners, cornersWithin, hasCorner, twoMarks, twoMarksOn, sameMark, sameEnds, unusedVertices, unusedVertex, badCuts, badRecord, badCut, badChildren, isChildOf, notChildOfOne, tooDeep, isMidpointOf, noMidpoint}
 use Rattle.laws.specs.Order.{firstBroken}
 use Rattle.check_refusals.specs.Check.{tableRows, rows, leaves}
-use Rattle.refine_selection.specs.Selected.{wrongSelectionLength, wrongSelectionMark, anotherJob, anotherRound, badNumber, badNumbers, namesCut, namesLast, isNamed}
+use Rattle.refine_selection.specs.Selected.{wrongSelectionLength, wrongSelectionMark, anotherJob, anotherRound, badNumber, badNumbers, selectionRows, namesCut, namesLast, roundRow, isNamed}
 use Rattle.refine_cut.specs.Cut.{midpointOf, withMidpoint, withChildren, cutAt}
 use Rattle.refine_pass.specs.Passes.{exceeds, turn, passBelow, pass, closing, refined}
-use Rattle.refine_service.specs.Refine.{closed, resultOf, selectionRows, resultRows, refineNumber, refineBytes}
+use Rattle.refine_service.specs.Refine.{closed, resultOf, refineSelectionRows, resultRows, refineNumber, refineBytes}
 
 -- The vertex at these places with these parents. A coordinate's place is 32,768 more.
 abbrev vertex : ℕ → ℕ → ℕ → ℕ → ℕ → Vertex
@@ -107,5 +107,5 @@ selecting job round count named = selectionBytes (record { job = job; round = ro
 
 -- What refine's answers compute with, named in one place: to unfold this is to unfold them all.
 unfoldable pub computed : Bool
-unfolding leaves foldBelow allBelow anyBelow countBelow sumBelow firstBelow listBelow joined number numberBytes lowSlot highSlot hasSlot otherEnd joins edgeBetween onFace opposite oppositeOn shares sharedSlot slotA slotB slotC slotD edgeCD otherMarksAre typeP setP unsetP markFits lowerEnd higherEnd endsOf sameSlot sameSlots samePiece newMark childFlag childMark childShape childOf cutOf coordinate coordinateOnGrid onGrid samePlace isHalfway halfwayOf minorOf determinantOf differenceOf differencesOf sixfoldOf marked markBytes rightMark rightLength headerOf headerBytes orNone storedOrNone heldIn vertexIn vertexFrom vertexBytes recordIn recordFrom recordBytes meshBytes rightSelectionMark rightSelectionLength selectionOf selectionBytes namedIn tablesOf hasParents vertexWith hangs sixfoldAt wrongLength wrongMark wrongCounts badVertices badVertex badBaseVertex placeTwice badMadeVertex pairTwice badBaseRecords badBaseRecord badPiece equalCorners cornerNotInBase badBaseMarks badMarks badBaseFaces badFaces badWith badTogether faceInThree faceBefore hasFace sameFace faceWithin faceHas sameCorners cornersWithin hasCorner twoMarks twoMarksOn sameMark sameEnds unusedVertices unusedVertex badCuts badRecord badCut badChildren isChildOf notChildOfOne tooDeep isMidpointOf noMidpoint hangsAt leafHangs hangingEdge tableRows rows firstBroken wrongSelectionLength wrongSelectionMark anotherJob anotherRound badNumber badNumbers namesCut namesLast isNamed midpointOf withMidpoint withChildren cutAt exceeds turn passBelow pass closing refined closed resultOf selectionRows resultRows refineNumber refineBytes
+unfolding leaves foldBelow allBelow anyBelow countBelow sumBelow firstBelow listBelow joined number numberBytes lowSlot highSlot hasSlot otherEnd joins edgeBetween onFace opposite oppositeOn shares sharedSlot slotA slotB slotC slotD edgeCD otherMarksAre typeP setP unsetP markFits lowerEnd higherEnd endsOf sameSlot sameSlots samePiece newMark childFlag childMark childShape childOf cutOf coordinate coordinateOnGrid onGrid samePlace isHalfway halfwayOf minorOf determinantOf differenceOf differencesOf sixfoldOf marked markBytes rightMark rightLength headerOf headerBytes orNone storedOrNone heldIn vertexIn vertexFrom vertexBytes recordIn recordFrom recordBytes meshBytes rightSelectionMark rightSelectionLength selectionOf selectionBytes namedIn tablesOf hasParents vertexWith hangs sixfoldAt wrongLength wrongMark wrongCounts badVertices badVertex badBaseVertex placeTwice badMadeVertex pairTwice badBaseRecords badBaseRecord badPiece equalCorners cornerNotInBase badBaseMarks badMarks badBaseFaces badFaces badWith badTogether faceInThree faceBefore hasFace sameFace faceWithin faceHas sameCorners cornersWithin hasCorner twoMarks twoMarksOn sameMark sameEnds unusedVertices unusedVertex badCuts badRecord badCut badChildren isChildOf notChildOfOne tooDeep isMidpointOf noMidpoint hangsAt leafHangs hangingEdge tableRows rows firstBroken wrongSelectionLength wrongSelectionMark anotherJob anotherRound badNumber badNumbers selectionRows namesCut namesLast roundRow isNamed midpointOf withMidpoint withChildren cutAt exceeds turn passBelow pass closing refined closed resultOf refineSelectionRows resultRows refineNumber refineBytes
 computed = true

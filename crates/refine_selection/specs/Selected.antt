@@ -1,14 +1,15 @@
--- Document 01's table, refusals 11 to 17: for each number when exactly it is given. Each is asked over the whole selection.
+-- Document 01's table, refusals 11 to 18: for each number when exactly it is given. Each is asked over the whole selection.
 use mathlib.Core.Bool.{Bool, not, _&&_, _||_}
-use mathlib.Core.List.{List}
+use mathlib.Core.List.{List, [], _∷_}
 use Prim.Native.Nat.{ℕ, _+_}
 use lib.Dec.{eqb, ltb, leb}
 use Rattle.laws.specs.Below.{anyBelow}
+use Rattle.laws.specs.Order.{Row, row}
 use Rattle.piece.specs.Shape.{lastGeneration}
 use Rattle.stored.specs.declared.Header.{Header}
 use Rattle.stored.specs.declared.Record.{Record}
 use Rattle.stored.specs.declared.Selection.{Selection}
-use Rattle.stored.specs.Layout.{rightSelectionLength, rightSelectionMark}
+use Rattle.stored.specs.Layout.{lastRound, rightSelectionLength, rightSelectionMark, selectionOf, namedIn}
 use Rattle.mesh_tables.specs.Tables.{uncut}
 
 -- 11: "selection under 13 bytes, or length not 13 + 2n"
@@ -34,6 +35,17 @@ badNumber records count named i = leb records (named i) || (ltb (i + 1) count &&
 unfoldable pub badNumbers : ℕ → ℕ → (ℕ → ℕ) → Bool
 badNumbers records count named = anyBelow count (badNumber records count named)
 
+-- 11 to 15: what is asked of every selection, of the mesh's header and the selection's bytes.
+unfoldable pub selectionRows : Header → List ℕ → List Row
+selectionRows h selection =
+    let s = selectionOf selection in
+    row 11 (wrongSelectionLength selection)
+    ∷ row 12 (wrongSelectionMark selection)
+    ∷ row 13 (anotherJob h s)
+    ∷ row 14 (anotherRound h s)
+    ∷ row 15 (badNumbers (h .records) (s .count) (namedIn selection))
+    ∷ []
+
 -- 16: "a named record is already cut"
 unfoldable pub namesCut : (ℕ → Record) → ℕ → (ℕ → ℕ) → Bool
 namesCut recordAt count named = anyBelow count (λ i. not (uncut (recordAt (named i))))
@@ -41,6 +53,10 @@ namesCut recordAt count named = anyBelow count (λ i. not (uncut (recordAt (name
 -- 17: "a named record has generation 15"
 unfoldable pub namesLast : (ℕ → Record) → ℕ → (ℕ → ℕ) → Bool
 namesLast recordAt count named = anyBelow count (λ i. eqb (recordAt (named i) .piece .generation) lastGeneration)
+
+-- 18: "the round is 65,535"
+unfoldable pub roundRow : Header → Row
+roundRow h = row 18 (eqb (h .round) lastRound)
 
 -- Record n is selected: some number of the selection names it.
 unfoldable pub isNamed : ℕ → (ℕ → ℕ) → ℕ → Bool

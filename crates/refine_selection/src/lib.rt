@@ -1,28 +1,14 @@
-// Refusals 13 to 17: whose the selection is, and what it names.
+// Refusals 11 to 17: what the selection is, whose it is, and what it names.
 use stored::Header;
 use stored::Layout;
-use stored::Selection;
 ghost use mathlib.Core.Path.{_≡_};
 ghost use mathlib.Core.Bool.{not};
 ghost use lib.Dec.{eqb};
+ghost use Rattle.laws.specs.Order.{firstBroken};
 ghost use Rattle.piece.specs.Shape.{lastGeneration};
 ghost use Rattle.stored.specs.Layout.{namedIn, recordIn};
 ghost use Rattle.mesh_tables.specs.Tables.{uncut};
-ghost use Rattle.refine_selection.specs.Selected.{anotherJob, anotherRound, badNumber, badNumbers, namesCut, namesLast};
-
-// Refusal 13.
-pub fn another_job(h: Header, s: Selection) -> bool
-    ensures { λ r. ⌜ r ≡ anotherJob h s ⌝ }
-{
-    s.job != h.job
-}
-
-// Refusal 14.
-pub fn another_round(h: Header, s: Selection) -> bool
-    ensures { λ r. ⌜ r ≡ anotherRound h s ⌝ }
-{
-    s.round != h.round
-}
+ghost use Rattle.refine_selection.specs.Selected.{badNumber, badNumbers, selectionRows, namesCut, namesLast};
 
 fn bad_number(selection: &[u8], records: u32, count: usize, i: usize) -> bool
     ensures { λ r. ⌜ r ≡ badNumber records count (namedIn (now (selection .entry))) i ⌝ }
@@ -41,7 +27,7 @@ fn bad_number(selection: &[u8], records: u32, count: usize, i: usize) -> bool
 }
 
 // Refusal 15.
-pub fn bad_numbers(selection: &[u8], records: u32, count: usize) -> bool
+fn bad_numbers(selection: &[u8], records: u32, count: usize) -> bool
     ensures { λ r. ⌜ r ≡ badNumbers records count (namedIn (now (selection .entry))) ⌝ }
 {
     let mut i: usize = 0;
@@ -52,6 +38,29 @@ pub fn bad_numbers(selection: &[u8], records: u32, count: usize) -> bool
         i += 1;
     }
     false
+}
+
+// Refusals 11 to 15, tried in their order, and 0 where none is broken.
+pub fn wrong_selection(h: Header, selection: &[u8]) -> u32
+    ensures { λ r. ⌜ r ≡ firstBroken (selectionRows h (now (selection .entry))) ⌝ }
+{
+    if !stored_selections::right_selection_length(selection) {
+        return 11;
+    }
+    if !stored_selections::right_selection_mark(selection) {
+        return 12;
+    }
+    let s = stored_selections::selection_of(selection);
+    if s.job != h.job {
+        return 13;
+    }
+    if s.round != h.round {
+        return 14;
+    }
+    if bad_numbers(selection, h.records, s.count as usize) {
+        return 15;
+    }
+    0
 }
 
 fn is_cut<'a>(l: Layout, base: &'a [u8], grown: &'a [u8], selection: &'a [u8], i: usize) -> bool

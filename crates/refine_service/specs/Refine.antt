@@ -1,33 +1,21 @@
 -- What refine answers, for every stored mesh, every selection and every length of the output buffer.
 use mathlib.Core.Path.{_≡_, sym, _∙_}
 use mathlib.Core.List.{List, [], _∷_, _++_}
-use Prim.Native.Nat.{ℕ, _+_}
-use lib.Dec.{eqb, ltb}
+use Prim.Native.Nat.{ℕ}
+use lib.Dec.{ltb}
 use Rattle.laws.specs.Lists.{outputOf}
 use Rattle.laws.specs.Below.{listBelow}
 use Rattle.laws.specs.Order.{Row, row, firstBroken}
 use Rattle.stored.specs.declared.Header.{Header}
-use Rattle.stored.specs.Layout.{limits, lastRound, meshLength, Mesh, meshBytes, selectionOf, namedIn}
+use Rattle.stored.specs.Layout.{limits, nextRound, meshLength, Mesh, meshBytes, selectionOf, namedIn}
 use Rattle.mesh_tables.specs.Tables.{Tables, tablesOf, allVertices, allRecords}
 use Rattle.check_refusals.specs.Check.{rows}
-use Rattle.refine_selection.specs.Selected.{wrongSelectionLength, wrongSelectionMark, anotherJob, anotherRound, badNumbers, namesCut, namesLast, isNamed}
+use Rattle.refine_selection.specs.Selected.{selectionRows, namesCut, namesLast, roundRow, isNamed}
 use Rattle.refine_pass.specs.Passes.{exceeds, refined}
 
 -- The tables after pass one, which "cuts the selected records", and all later passes.
 unfoldable pub closed : List ℕ → List ℕ → Tables
 closed mesh selection = refined limits (isNamed (selectionOf selection .count) (namedIn selection)) (tablesOf mesh)
-
--- "The round rises by 1"; all else in the header stays.
-abbrev pub nextRound : Header → Header
-nextRound h =
-    record {
-      job = h .job;
-      round = h .round + 1;
-      «base_vertices» = h .«base_vertices»;
-      vertices = h .vertices;
-      «base_records» = h .«base_records»;
-      records = h .records;
-    }
 
 -- The mesh that is written.
 unfoldable pub resultOf : Tables → Mesh
@@ -38,20 +26,12 @@ resultOf m =
       records = listBelow (allRecords m) (m .recordAt);
     }
 
--- Refusals 11 to 18, of the mesh and the selection.
-unfoldable pub selectionRows : Tables → List ℕ → List Row
-selectionRows m selection =
-    let h = m .header in
-    let s = selectionOf selection in
-    row 11 (wrongSelectionLength selection)
-    ∷ row 12 (wrongSelectionMark selection)
-    ∷ row 13 (anotherJob h s)
-    ∷ row 14 (anotherRound h s)
-    ∷ row 15 (badNumbers (h .records) (s .count) (namedIn selection))
-    ∷ row 16 (namesCut (m .recordAt) (s .count) (namedIn selection))
-    ∷ row 17 (namesLast (m .recordAt) (s .count) (namedIn selection))
-    ∷ row 18 (eqb (h .round) lastRound)
-    ∷ []
+-- Refusals 11 to 18, of the mesh and the selection: 16 and 17 are refine's own.
+unfoldable pub refineSelectionRows : Tables → List ℕ → List Row
+refineSelectionRows m selection =
+    let count = selectionOf selection .count in
+    selectionRows (m .header) selection
+    ++ (row 16 (namesCut (m .recordAt) count (namedIn selection)) ∷ row 17 (namesLast (m .recordAt) count (namedIn selection)) ∷ roundRow (m .header) ∷ [])
 
 -- Refusals 19 and 20, of the header after all passes and the output buffer's length.
 unfoldable pub resultRows : Header → ℕ → List Row
@@ -60,7 +40,7 @@ resultRows h room = row 19 (exceeds limits h) ∷ row 20 (ltb room (meshLength (
 -- "Refine gives 1 to 20": 1 to 10 are check's own.
 unfoldable pub refineNumber : List ℕ → List ℕ → ℕ → ℕ
 refineNumber mesh selection room =
-    firstBroken (rows mesh ++ (selectionRows (tablesOf mesh) selection ++ resultRows (closed mesh selection .header) room))
+    firstBroken (rows mesh ++ (refineSelectionRows (tablesOf mesh) selection ++ resultRows (closed mesh selection .header) room))
 
 -- "After a refusal the output buffer is zero throughout; after acceptance it is zero past the result."
 unfoldable pub refineBytes : List ℕ → List ℕ → ℕ → List ℕ

@@ -8,27 +8,25 @@ use native.Mathlib.Omega.{arith}
 use lib.ListN.{length, drop, replicate, length-replicate}
 use lib.Seq.{sets, length-sets}
 use lib.Dec.{eqb, lit<}
-use borrow.Author.Tests.{eqb-true, eqb-false, lt-ltb, le-ltb, not-false}
+use borrow.Author.Tests.{eqb-true, lt-ltb, le-ltb, not-false}
 use Rattle.laws.specs.Lists.{zeroPast, Bytes, bytes-none, bytes-cons, bytes-take, bytes-drop, bytes-sets, clear-with, outputOf}
-use Rattle.laws.specs.Numbers.{number-below}
 use Rattle.laws.specs.Order.{firstBroken, one-after-other, both-hold, none-broken}
 use Rattle.stored.specs.declared.Header.{Header}
-use Rattle.stored.specs.Layout.{headerWidth, vertexWidth, recordWidth, limits, lastRound, headerOf, rightLength, meshLength, layoutOf, vertexPart, recordPart, assembled, meshBytes, selectionOf, namedIn}
+use Rattle.stored.specs.Layout.{headerWidth, vertexWidth, recordWidth, limits, nextRound, headerOf, rightLength, meshLength, layoutOf, vertexPart, recordPart, assembled, meshBytes, selectionOf, namedIn}
 use Rattle.stored.specs.Meshes.{length-says, assembled-length}
 use Rattle.stored.specs.Worked.{copied-vertices, copied-records, assembled-mesh}
 use Rattle.mesh_tables.specs.Tables.{Tables, tables, tablesOf}
 use Rattle.check_refusals.specs.Refusals.{wrongLength}
 use Rattle.check_refusals.specs.Check.{rows, tableRows, checkNumber}
 use Rattle.check_refusals.specs.Bounded.{bounded}
-use Rattle.refine_selection.specs.Selected.{isNamed}
+use Rattle.refine_selection.specs.Selected.{selectionRows, roundRow, isNamed}
 use Rattle.refine_cut.specs.Slices.{slices, tablesIn}
 use Rattle.refine_pass.specs.Passes.{exceeds, refined}
 use Rattle.refine_pass.specs.Puts.{refinedPut, work, refinedWithin}
 use Rattle.refine_pass.specs.Steps.{refined-within}
 use Rattle.refine_pass.specs.Law.{within, not-exceeds, Working, can-begin, refined-tables, refined-working}
-use Rattle.refine_pass.specs.Stays.{round-stays}
-use Rattle.refine_service.specs.Refine.{closed, nextRound, resultOf, selectionRows, resultRows, refineNumber, refineBytes}
-use Rattle.refine_service.specs.Order.{selectionNumber, not-last}
+use Rattle.refine_service.specs.Refine.{closed, resultOf, refineSelectionRows, resultRows, refineNumber, refineBytes}
+use Rattle.refine_service.specs.Order.{selectionNumber}
 
 -- ---- 19 and 20, of what the passes leave
 
@@ -38,11 +36,10 @@ storedNumber h room = firstBroken (resultRows h room)
 unfoldable pub storedBytes : Header → List ℕ → List ℕ → ℕ → List ℕ
 storedBytes h vertices records room = outputOf (storedNumber h room) room (assembled (nextRound h) vertices records)
 
--- What is assembled: the slices are those to work on, the round can rise, and the output buffer is clear.
+-- What is assembled: the slices are those to work on, and the output buffer is clear.
 pub record Assembled (h : Header) (vertices records out : List ℕ) : Type 0 where
   pub vertices-there : length vertices ≡ vertexWidth * (limits .vertices + 1)
   pub records-there : length records ≡ recordWidth * (limits .records + 2)
-  pub round : h .round < lastRound
   pub clear : out ≡ replicate (length out) 0
 
 module _ (h : Header) (vertices records out : List ℕ) (a : Assembled h vertices records out) where
@@ -76,13 +73,12 @@ laterNumber mesh selection room = storedNumber (closed mesh selection .header) r
 unfoldable pub laterBytes : List ℕ → List ℕ → ℕ → List ℕ
 laterBytes mesh selection room = outputOf (laterNumber mesh selection room) room (meshBytes (resultOf (closed mesh selection)))
 
--- What is copied: a mesh of the right length within the limits, whose round can rise; the output buffer is clear.
+-- What is copied: a mesh of the right length within the limits; the output buffer is clear.
 pub record Copied (h : Header) (mesh out : List ℕ) : Type 0 where
   pub header : h ≡ headerOf mesh
   pub long : length mesh ≡ meshLength (h .vertices) (h .records)
   pub vertices : h .vertices ≤ limits .vertices
   pub records : h .records ≤ limits .records
-  pub round : h .round < lastRound
   pub clear : out ≡ replicate (length out) 0
 
 -- Only what is stored is written.
@@ -158,12 +154,8 @@ module _ (mesh selection out : List ℕ) (h : Header) (c : Copied h mesh out) wh
         ∙ refined-tables limits work chosen (slices h copiedVertices copiedRecords) begun
         ∙ ap (refined limits chosen) copied-tables
 
-    round-same : with .round ≡ h .round
-    unfolding closed tablesOf
-    round-same = (λ i. worked i .header .round) ∙ round-stays limits chosen (tablesOf mesh) ∙ sym (ap (λ (k : Header). k .round) (c .header))
-
     pub worked-assembled : Assembled with vertices records out
-    worked-assembled = record { vertices-there = long; records-there = deep; round = omega (arith, round-same, c .round); clear = c .clear }
+    worked-assembled = record { vertices-there = long; records-there = deep; clear = c .clear }
 
     pub later-number : (room : ℕ) → storedNumber with room ≡ laterNumber mesh selection room
     unfolding laterNumber
@@ -185,24 +177,24 @@ module _ (mesh selection : List ℕ) (room : ℕ) where
   refused e = rw e
 
   -- 1 to 10 come first, then 11 to 18, then 19 and 20.
-  after-check : refineNumber mesh selection room ≡ cond (eqb (checkNumber mesh) 0) (firstBroken (selectionRows (tablesOf mesh) selection ++ resultRows (closed mesh selection .header) room)) (checkNumber mesh)
+  after-check : refineNumber mesh selection room ≡ cond (eqb (checkNumber mesh) 0) (firstBroken (refineSelectionRows (tablesOf mesh) selection ++ resultRows (closed mesh selection .header) room)) (checkNumber mesh)
   unfolding refineNumber checkNumber rows tableRows
-  after-check = one-after-other (rows mesh) (selectionRows (tablesOf mesh) selection ++ resultRows (closed mesh selection .header) room) refl
+  after-check = one-after-other (rows mesh) (refineSelectionRows (tablesOf mesh) selection ++ resultRows (closed mesh selection .header) room) refl
 
-  after-selection : firstBroken (selectionRows (tablesOf mesh) selection ++ resultRows (closed mesh selection .header) room)
+  after-selection : firstBroken (refineSelectionRows (tablesOf mesh) selection ++ resultRows (closed mesh selection .header) room)
       ≡ cond (eqb (selectionNumber (tablesOf mesh) selection) 0) (laterNumber mesh selection room) (selectionNumber (tablesOf mesh) selection)
-  unfolding selectionNumber laterNumber storedNumber selectionRows
-  after-selection = one-after-other (selectionRows (tablesOf mesh) selection) (resultRows (closed mesh selection .header) room) refl
+  unfolding selectionNumber laterNumber storedNumber refineSelectionRows selectionRows roundRow
+  after-selection = one-after-other (refineSelectionRows (tablesOf mesh) selection) (resultRows (closed mesh selection .header) room) refl
 
   pub refine-judged : eqb (checkNumber mesh) 0 ≡ false → (checkNumber mesh ≡ refineNumber mesh selection room) × (replicate room 0 ≡ refineBytes mesh selection room)
   refine-judged e = let n : checkNumber mesh ≡ refineNumber mesh selection room = sym (after-check ∙ rw e) in (n, refused (rw (← n) e))
 
   -- Where check gives 0 and no rule of the selection is broken, 19 and 20 decide.
   pub refine-none : (refineNumber mesh selection room ≡ 0) ↔ ((checkNumber mesh ≡ 0) × ((selectionNumber (tablesOf mesh) selection ≡ 0) × (laterNumber mesh selection room ≡ 0)))
-  unfolding refineNumber checkNumber rows tableRows selectionNumber laterNumber storedNumber selectionRows
+  unfolding refineNumber checkNumber rows tableRows selectionNumber laterNumber storedNumber refineSelectionRows selectionRows roundRow
   refine-none =
-      let first = both-hold (rows mesh) (selectionRows (tablesOf mesh) selection ++ resultRows (closed mesh selection .header) room) refl in
-      let later = both-hold (selectionRows (tablesOf mesh) selection) (resultRows (closed mesh selection .header) room) refl in
+      let first = both-hold (rows mesh) (refineSelectionRows (tablesOf mesh) selection ++ resultRows (closed mesh selection .header) room) refl in
+      let later = both-hold (refineSelectionRows (tablesOf mesh) selection) (resultRows (closed mesh selection .header) room) refl in
       (λ e. (first .0 e .0, later .0 (first .0 e .1)), λ z. first .1 (z .0, later .1 (z .1)))
 
   module _ (accepted : checkNumber mesh ≡ 0) where
@@ -219,19 +211,16 @@ module _ (mesh selection : List ℕ) (room : ℕ) where
       unfolding laterBytes refineBytes
       refine-later-bytes = rw refine-later
 
--- What acceptance by check and a selection that can be used say of the mesh.
-pub copied-ready : (mesh selection out : List ℕ) → Bytes mesh → checkNumber mesh ≡ 0 → selectionNumber (tablesOf mesh) selection ≡ 0 → out ≡ replicate (length out) 0 → Copied (headerOf mesh) mesh out
-unfolding checkNumber rows tableRows headerOf wrongLength tablesOf
-copied-ready mesh selection out bytes e right clear =
+-- What acceptance by check says of the mesh.
+pub copied-ready : (mesh out : List ℕ) → checkNumber mesh ≡ 0 → out ≡ replicate (length out) 0 → Copied (headerOf mesh) mesh out
+unfolding checkNumber rows tableRows headerOf wrongLength
+copied-ready mesh out e clear =
     let holds = none-broken (rows mesh) refl e in
     let few = bounded (headerOf mesh) (holds 3) in
-    let below = number-below 2 (drop 9 mesh) (bytes-drop 9 mesh bytes) in
-    let last = eqb-false (headerOf mesh .round) lastRound (not-last (tablesOf mesh) selection right) in
     record {
       header = refl;
       long = length-says mesh (not-false (rightLength mesh) (holds 1)) .1;
       vertices = few .vertices;
       records = few .records;
-      round = omega (arith, below, last);
       clear = clear;
     }

@@ -1,14 +1,12 @@
 // Refine: cuts the selected pieces, and what hangs then, until nothing does.
 use stored::Header;
 use stored::Layout;
-use stored::Selection;
 ghost use mathlib.Core.Path.{_≡_};
-ghost use Prim.Native.Nat.{_<_};
 ghost use lib.ListN.{length};
-ghost use Rattle.stored.specs.Layout.{lastRound, namedIn};
+ghost use Rattle.stored.specs.Layout.{namedIn};
 ghost use Rattle.mesh_tables.specs.Tables.{tables};
 ghost use Rattle.check_refusals.specs.Check.{checkNumber};
-ghost use Rattle.refine_service.specs.Refine.{nextRound, RefineOutcomeIs};
+ghost use Rattle.refine_service.specs.Refine.{RefineOutcomeIs};
 ghost use Rattle.refine_service.specs.Order.{selectionNumber, namedNumber};
 ghost use Rattle.refine_service.specs.Storing.{Assembled, Copied, storedNumber, storedBytes, laterNumber, laterBytes};
 
@@ -20,21 +18,17 @@ fn judged(mesh: &[u8]) -> u32
     report.number as u32
 }
 
-// Refusals 15 to 18, tried in their order, and 0 where none is broken.
+// Refusals 16 to 18, tried in their order, and 0 where none is broken.
 fn named<'a>(
     h: Header,
     l: Layout,
     base: &'a [u8],
     grown: &'a [u8],
     selection: &'a [u8],
-    s: Selection,
+    count: usize,
 ) -> u32
-    ensures { λ r. ⌜ r ≡ namedNumber (tables h l (now (base .entry)) (now (grown .entry))) (s .count) (namedIn (now (selection .entry))) ⌝ }
+    ensures { λ r. ⌜ r ≡ namedNumber (tables h l (now (base .entry)) (now (grown .entry))) count (namedIn (now (selection .entry))) ⌝ }
 {
-    let count = s.count as usize;
-    if refine_selection::bad_numbers(selection, h.records, count) {
-        return 15;
-    }
     if refine_selection::names_cut(l, base, grown, selection, count) {
         return 16;
     }
@@ -51,34 +45,12 @@ fn named<'a>(
 fn selected<'a>(h: Header, l: Layout, base: &'a [u8], grown: &'a [u8], selection: &'a [u8]) -> u32
     ensures { λ r. ⌜ r ≡ selectionNumber (tables h l (now (base .entry)) (now (grown .entry))) (now (selection .entry)) ⌝ }
 {
-    if !stored_selections::right_selection_length(selection) {
-        return 11;
-    }
-    if !stored_selections::right_selection_mark(selection) {
-        return 12;
+    let wrong = refine_selection::wrong_selection(h, selection);
+    if wrong != 0 {
+        return wrong;
     }
     let s = stored_selections::selection_of(selection);
-    if refine_selection::another_job(h, s) {
-        return 13;
-    }
-    if refine_selection::another_round(h, s) {
-        return 14;
-    }
-    named(h, l, base, grown, selection, s)
-}
-
-fn next_round(h: Header) -> Header
-    requires { ⌜ h .round < lastRound ⌝ }
-    ensures { λ r. ⌜ r ≡ nextRound h ⌝ }
-{
-    Header {
-        job: h.job,
-        round: h.round + 1,
-        base_vertices: h.base_vertices,
-        vertices: h.vertices,
-        base_records: h.base_records,
-        records: h.records,
-    }
+    named(h, l, base, grown, selection, s.count as usize)
 }
 
 // Refusals 19 and 20, or the mesh.
@@ -93,7 +65,7 @@ fn finish<'a>(h: Header, vertices: &'a [u8], records: &'a [u8], out: &mut [u8]) 
     if out.len() < stored_headers::mesh_length(h.vertices, h.records) {
         return 20;
     }
-    stored_written::put_mesh(out, next_round(h), vertices, records);
+    stored_written::put_mesh(out, stored_headers::next_round(h), vertices, records);
     0
 }
 

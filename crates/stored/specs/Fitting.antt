@@ -8,8 +8,8 @@ use native.Mathlib.Omega.{arith}
 use mathlib.Core.List.{List, []}
 use lib.ListN.{length, getD, take, drop}
 use lib.Seq.{sets}
-use lib.Dec.{eqb, ltb, leb}
-use borrow.Author.Tests.{eq-eqb, ne-eqb, eqb-true, eqb-false}
+use lib.Dec.{eqb, ltb, leb, lit<}
+use borrow.Author.Tests.{eq-eqb, ne-eqb, eqb-true, eqb-false, lt-ltb, ltb-true}
 use Rattle.laws.specs.Below.{either}
 use Rattle.laws.specs.Lists.{Bytes, bytes-none, bytes-cons, bytes-drop, bytes-take, bytes-sets}
 use Rattle.laws.specs.Numbers.{number, number-below}
@@ -18,7 +18,7 @@ use Rattle.stored.specs.declared.Layout.{Layout}
 use Rattle.stored.specs.declared.Header.{Header}
 use Rattle.stored.specs.declared.Vertex.{Vertex}
 use Rattle.stored.specs.declared.Record.{Record}
-use Rattle.stored.specs.Layout.{none, storedNone, orNone, storedOrNone, u16At, headerOf, vertexFrom, cornersFrom, recordFrom, heldIn, baseInto, grownInto, vertexIn, recordIn, Mesh, edgeAt, marksAt, flagAt, generationAt, firstChildAt}
+use Rattle.stored.specs.Layout.{none, storedNone, lastRound, roundAfter, orNone, storedOrNone, u16At, headerOf, vertexFrom, cornersFrom, recordFrom, heldIn, baseInto, grownInto, vertexIn, recordIn, Mesh, edgeAt, marksAt, flagAt, generationAt, firstChildAt}
 
 -- A u16 and a u32, as the mesh stores them.
 abbrev pub U16 : ℕ → Type 0
@@ -38,6 +38,17 @@ pub record HeaderFits (h : Header) : Type 0 where
   pub vertices : U16 (h .vertices)
   pub baseRecords : U16 (h .«base_records»)
   pub records : U16 (h .records)
+
+-- The round after one that is not the last is 1 more; it is a u16 always.
+pub round-rises : (round : ℕ) → round < lastRound → roundAfter round ≡ round + 1
+round-rises round l = rw (lt-ltb round lastRound l)
+
+pub round-fits : (round : ℕ) → U16 (roundAfter round)
+round-fits round = go (ltb round lastRound) (ltb-true round lastRound)
+  where
+    go : (b : Bool) → (b ≡ true → round < lastRound) → U16 (cond b (round + 1) 0)
+    go true l = let below = l refl in omega arith
+    go false l = lit< tt
 
 pub record VertexFits (v : Vertex) : Type 0 where
   pub x : U16 (v .place .x)

@@ -140,6 +140,21 @@ headerBytes h =
     ++ u16Bytes (h .records)
     ++ 0 ∷ []
 
+-- "The round rises by 1": the one after the last, which 18 keeps from being met, is 0. All else in the header stays.
+abbrev pub roundAfter : ℕ → ℕ
+roundAfter round = cond (ltb round lastRound) (round + 1) 0
+
+abbrev pub nextRound : Header → Header
+nextRound h =
+    record {
+      job = h .job;
+      round = roundAfter (h .round);
+      «base_vertices» = h .«base_vertices»;
+      vertices = h .vertices;
+      «base_records» = h .«base_records»;
+      records = h .records;
+    }
+
 -- "20 + 10·vertices + 17·records"
 abbrev pub meshLength : ℕ → ℕ → ℕ
 meshLength vertices records = headerWidth + vertexWidth * vertices + recordWidth * records

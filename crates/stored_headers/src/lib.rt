@@ -1,7 +1,7 @@
 // A stored mesh's header, and its length.
 use stored::Header;
 ghost use mathlib.Core.Path.{_≡_};
-ghost use Rattle.stored.specs.Layout.{marked, rightMark, headerOf, meshLength, rightLength};
+ghost use Rattle.stored.specs.Layout.{marked, rightMark, headerOf, roundAfter, nextRound, meshLength, rightLength};
 
 // Whether the first bytes are `TM`, this letter and version 1: a mesh's mark, and a selection's.
 pub fn marked_with(s: &[u8], letter: u8) -> bool
@@ -38,6 +38,29 @@ pub fn header_of(mesh: &[u8]) -> Header
         vertices: slices::two(mesh, 13),
         base_records: slices::two(mesh, 15),
         records: slices::two(mesh, 17),
+    }
+}
+
+fn round_after(round: u32) -> u32
+    ensures { λ r. ⌜ r ≡ roundAfter round ⌝ }
+{
+    if round < stored::LAST_ROUND {
+        return round + 1;
+    }
+    0
+}
+
+// "The round rises by 1."
+pub fn next_round(h: Header) -> Header
+    ensures { λ r. ⌜ r ≡ nextRound h ⌝ }
+{
+    Header {
+        job: h.job,
+        round: round_after(h.round),
+        base_vertices: h.base_vertices,
+        vertices: h.vertices,
+        base_records: h.base_records,
+        records: h.records,
     }
 }
 

@@ -30,9 +30,6 @@ returns-2 c =
     let a = start .args in
     stored-20 (a .h) (now (a .vertices)) (now (a .records)) (now (a .out)) (start .pre) (asked (c .before .before .before) (c .before .before .if1 .left)) (omega (arith, c .if2 .taken, c .before .mesh-length .ensures))
 
-next-round-requires : tie.Need-next-round-requires
-next-round-requires c κs = c .before .before .before .before .before .before .before .before .before .pre .round
-
 returns-3 : tie.Need-returns-3
 returns-3 c =
     let start = c .before .before .before .before .before .before .before .before .before .before .before .before .before in
@@ -42,4 +39,4 @@ returns-3 c =
     (s .0, c .before .before .put-mesh .ensures ∙ ap (λ (h : Header). sets (now (a .out)) 0 (assembled h (now (a .vertices)) (now (a .records)))) (c .before .before .before .next-round .ensures) ∙ s .1)
 
 pub finish-spec : {M : Type 1} → statement M
-finish-spec = tie.close (tie.spec (λ c κs. search needs) (λ c κs. search needs) returns (λ c κs. search needs) returns-2 next-round-requires (λ c κs. search needs) (λ c. search needs) returns-3)
+finish-spec = tie.close (tie.spec (λ c κs. search needs) (λ c κs. search needs) returns (λ c κs. search needs) returns-2 (λ c κs. search needs) (λ c κs. search needs) (λ c. search needs) returns-3)

@@ -2,11 +2,10 @@
 -- Assumes nothing.
 use borrow.Author.Needs.{needs}
 use mathlib.Core.Path.{_≡_, sym, ap, subst, _∙_}
-use native.Mathlib.Omega.{arith}
 use lib.ListN.{length}
 use borrow.Author.Tests.{ne-eqb}
 use denote.Ref.{now}
-use Rattle.laws.specs.Lists.{Bytes, clear-itself, clear-long}
+use Rattle.laws.specs.Lists.{clear-itself, clear-long}
 use Rattle.stored.specs.declared.Header.{Header}
 use Rattle.stored.specs.Layout.{layoutOf}
 use Rattle.mesh_tables.specs.Tables.{tables, tablesOf}
@@ -41,18 +40,14 @@ returns-2 c =
     record { number = found ∙ r .0; bytes = clear .ensures ∙ r .1 }
 
 store-requires : tie.Need-store-requires
-unfolding tablesOf
 store-requires c κs =
     let a = c .before .before .before .before .before .before .before .before .before .before .before .before .before .before .args in
     let mesh = now (a .mesh) in
-    let selection = now (a .selection) in
     let room = length (now (a .out)) in
     let clear = c .before .before .before .before .before .before .before .before .before .clear in
     let none : checkNumber mesh ≡ 0 = sym (c .before .before .before .before .before .before .judged .ensures) ∙ c .before .before .before .before .before .if1 .left in
     let header = c .before .before .before .before .header-of .ensures in
-    let found : c .before .before .selected .result ≡ selectionNumber (tablesOf mesh) selection = c .before .before .selected .ensures ∙ (λ i. selectionNumber (tables (header i) ((c .before .before .before .layout-of .ensures ∙ ap layoutOf header) i) mesh mesh) selection) in
-    let bytes : Bytes mesh = record { byte = λ k. omega (arith, c .before .before .before .before .before .before .before .before .before .before .before .before .before .shared-slice-known .given k) } in
-    subst (λ (h : Header). Copied h mesh (clear .last .0)) (sym header) (copied-ready mesh selection (clear .last .0) bytes none (sym found ∙ c .before .if2 .left) (clear-itself (clear .last .0) room (clear .ensures)))
+    subst (λ (h : Header). Copied h mesh (clear .last .0)) (sym header) (copied-ready mesh (clear .last .0) none (clear-itself (clear .last .0) room (clear .ensures)))
 
 returns-3 : tie.Need-returns-3
 unfolding tablesOf
