@@ -9,6 +9,7 @@ ghost use Rattle.stored.specs.Layout.{limits, assembled};
 ghost use Rattle.mesh_tables.specs.Tables.{tables};
 ghost use Rattle.check_refusals.specs.Refusals.{wrongCounts};
 ghost use Rattle.check_refusals.specs.Bounded.{Bounded};
+ghost use Rattle.check_refusals.specs.Lent.{LentToBase};
 ghost use Rattle.build_service.specs.Build.{notWhole, plainHeader, plainBytes, BuildOutcomeIs};
 ghost use Rattle.build_service.specs.Storing.{verticesPut, recordsPut, Ready, judgedNumber, laterNumber, laterBytes};
 
@@ -101,23 +102,54 @@ fn put_records(
 }
 
 // Check's own rules 4, 5, 7 and 8, and 0 where none is broken.
-fn judged<'a>(h: Header, l: Layout, base: &'a [u8], grown: &'a [u8]) -> u32
-    requires { ⌜ Bounded h ⌝ }
+fn judged_with<'a>(
+    h: Header,
+    l: Layout,
+    base: &'a [u8],
+    grown: &'a [u8],
+    heads: &mut [u16],
+    face_heads: &mut [u16],
+    links: &mut [u16],
+    uses: &mut [u16],
+) -> u32
+    requires { ⌜ LentToBase h (length (now heads)) (length (now «face_heads»)) (length (now links)) (length (now uses)) ⌝ }
     ensures { λ r. ⌜ r ≡ judgedNumber (tables h l (now (base .entry)) (now (grown .entry))) ⌝ }
 {
-    if check_places::bad_vertices(h, l, base, grown) {
+    if check_places::bad_vertices(h, l, base, grown, heads, links) {
         return 4;
     }
     if check_pieces::bad_base_records(h, l, base, grown) {
         return 5;
     }
-    if check_faces::bad_base_faces(h, l, base, grown) {
+    if check_faces::bad_base_faces(h, l, base, grown, face_heads, links) {
         return 7;
     }
-    if check_uses::unused_vertices(h, l, base, grown) {
+    if check_uses::unused_vertices(h, l, base, grown, uses) {
         return 8;
     }
     0
+}
+
+// The working memory of these rules is made here, and lent to them.
+fn judged<'a>(h: Header, l: Layout, base: &'a [u8], grown: &'a [u8]) -> u32
+    requires { ⌜ Bounded h ⌝ }
+    ensures { λ r. ⌜ r ≡ judgedNumber (tables h l (now (base .entry)) (now (grown .entry))) ⌝ }
+{
+    let mut heads = [0u16; chains::KEYS];
+    let mut face_heads = [0u16; chains::FACE_KEYS];
+    let mut links = [0u16; check_faces::FACES];
+    // "one count for each of the 1,024 possible vertices": [0; 1024]
+    let mut uses = [0u16; stored::VERTICES];
+    judged_with(
+        h,
+        l,
+        base,
+        grown,
+        &mut heads,
+        &mut face_heads,
+        &mut links,
+        &mut uses,
+    )
 }
 
 // Judges the tables, and stores the mesh where it is accepted and there is room.

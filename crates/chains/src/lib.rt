@@ -1,10 +1,56 @@
 // Links and counts that are kept beside a table. Nothing is asked of the slices: past the end an entry reads as 0, and nothing is written there.
 ghost use mathlib.Core.Path.{_≡_};
-ghost use lib.ListN.{getD};
-ghost use Rattle.laws.specs.Links.{linksOf, pushed, linkAt, countedAt};
+ghost use Prim.Native.Nat.{_%_};
+ghost use lib.ListN.{length, getD, replicate};
+ghost use Rattle.laws.specs.Links.{linksOf, pushed, linkAt, countedAt, short};
+
+// How many keys the tables of versions 1 and 2 have: for their vertices, and for the faces of their base records.
+pub const KEYS: usize = 8192;
+
+pub const FACE_KEYS: usize = 32768;
 
 // The greatest number that an entry holds.
 const GREATEST: u16 = 65535;
+
+// Every entry is 0: links of no number, and counts of none.
+pub fn clear(table: &mut [u16])
+    ensures { λ _. ⌜ now (table .exit) ≡ replicate (length (now (table .entry))) 0 ⌝ }
+{
+    let mut i: usize = 0;
+    while i < table.len() {
+        table[i] = 0;
+        i += 1;
+    }
+}
+
+// Whether lists that are lent have no room for the links of n numbers.
+pub fn is_short(heads: &[u16], nexts: &[u16], n: usize) -> bool
+    ensures { λ r. ⌜ r ≡ short (now (heads .entry)) (now (nexts .entry)) n ⌝ }
+{
+    if heads.len() == 0 {
+        return true;
+    }
+    if nexts.len() < n {
+        return true;
+    }
+    (GREATEST as usize) < n
+}
+
+// The key of x, one of so many. By a number that is known beforehand the remainder takes less time.
+pub fn key(x: usize, keys: usize) -> usize
+    ensures { λ r. ⌜ r ≡ x % keys ⌝ }
+{
+    if keys == KEYS {
+        return x % KEYS;
+    }
+    if keys == FACE_KEYS {
+        return x % FACE_KEYS;
+    }
+    if keys == 0 {
+        return x;
+    }
+    x % keys
+}
 
 // The number v is put before the others with key k, where there is room.
 pub fn push(heads: &mut [u16], nexts: &mut [u16], k: usize, v: usize)

@@ -1,2 +1,3 @@
 pub mod Children
 pub mod Midpoints
+pub mod Lent

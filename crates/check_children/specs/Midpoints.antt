@@ -4,7 +4,7 @@ use mathlib.Core.Path.{_≡_, refl, sym, ap, _∙_}
 use mathlib.Core.Bool.{Bool, true, not, cond, _&&_, _||_, false≢true, or-false}
 use mathlib.Core.Logic.{⊎-elim}
 use mathlib.Core.List.{List}
-use Prim.Native.Nat.{ℕ, _<_}
+use Prim.Native.Nat.{ℕ, _≤_, _<_}
 use native.Mathlib.Omega.{arith}
 use lib.ListN.{length, getD, replicate}
 use lib.Dec.{eqb, leb}
@@ -12,9 +12,7 @@ use borrow.Author.Tests.{eq-eqb, ne-eqb, lt-ltb}
 use Rattle.laws.specs.Below.{anyBelow, any-same, any-is, any-first, first-where, either}
 use Rattle.laws.specs.Links.{countedAt, counted-long}
 use Rattle.piece.specs.declared.Ends.{Ends}
-use Rattle.stored.specs.Layout.{limits}
 use Rattle.mesh_tables.specs.Tables.{Tables, baseVertices, allVertices, allRecords, pieceAt, isLeaf, isCut, hasParents, vertexWith, refinementEnds}
-use Rattle.check_refusals.specs.Bounded.{Room}
 use Rattle.check_refusals.specs.Refusals.{isMidpointOf, noMidpoint}
 use Rattle.mesh_parents.specs.Pairs.{parentEnds, parents-are}
 use Rattle.laws.specs.Counts.{countsBelow, marked, counted-marked, Marking, counts-zero}
@@ -38,9 +36,9 @@ midpoint-marking m = record { long = long; marks = marks }
         let w = vertexWith m (refinementEnds (pieceAt m n)) in
         ⊎-elim (λ u. rw u (sym (or-false (marked t x)))) (λ f. rw f (counted-marked t w x l)) (either (isLeaf m n))
 
--- The table of all records.
-abbrev pub midpointsIn : Tables → List ℕ
-midpointsIn m = countsBelow (midpointCounted m) (replicate (limits .vertices) 0) (allRecords m)
+-- The table of all records, with room for so many vertices.
+abbrev pub midpointsIn : Tables → ℕ → List ℕ
+midpointsIn m room = countsBelow (midpointCounted m) (replicate room 0) (allRecords m)
 
 -- ---- vertices with the same parents
 
@@ -80,25 +78,25 @@ module _ (m : Tables) (v : ℕ) (made : leb (baseVertices m) v ≡ true) (within
       (either (hasParents m ends v))
 
   -- By the table: v is halfway on some cut record's refinement edge if the first with its parents has been counted.
-  no-midpoint-made : Room (m .header) → eqb (getD (midpointsIn m) (vertexWith m own) 0) 0 ≡ not (anyBelow (allRecords m) (isMidpointOf m v))
+  no-midpoint-made : (room : ℕ) → allVertices m ≤ room → eqb (getD (midpointsIn m room) (vertexWith m own) 0) 0 ≡ not (anyBelow (allRecords m) (isMidpointOf m v))
   unfolding isMidpointOf
-  no-midpoint-made room =
+  no-midpoint-made room fits =
       let P : ℕ → ℕ → Bool = λ n x. isCut m n && eqb (vertexWith m (refinementEnds (pieceAt m n))) x in
       let w = vertexWith m own in
       let below = first-within in
-      counts-zero (midpointCounted m) P (midpoint-marking m) (limits .vertices) (allRecords m) w (omega (arith, room .vertices))
+      counts-zero (midpointCounted m) P (midpoint-marking m) room (allRecords m) w (omega (arith, below, fits))
       ∙ ap not (any-same (allRecords m) (λ n. P n w) (isMidpointOf m v) (λ n l. ap (λ (b : Bool). isCut m n && b) (sym (has-is (refinementEnds (pieceAt m n))))))
 
 -- By the table: a made vertex whose parents' first vertex has not been counted.
 unfoldable pub noMidpointBy : Tables → List ℕ → ℕ → Bool
 noMidpointBy m midpoints v = leb (baseVertices m) v && eqb (getD midpoints (vertexWith m (parentEnds (m .vertexAt v))) 0) 0
 
-no-midpoint-is : (m : Tables) (v : ℕ) → Room (m .header) → v < allVertices m → noMidpointBy m (midpointsIn m) v ≡ noMidpoint m v
+no-midpoint-is : (m : Tables) (room v : ℕ) → allVertices m ≤ room → v < allVertices m → noMidpointBy m (midpointsIn m room) v ≡ noMidpoint m v
 unfolding noMidpointBy noMidpoint own
-no-midpoint-is m v room within =
-    ⊎-elim (λ t. rw t (no-midpoint-made m v t within room)) (λ f. rw f) (either (leb (baseVertices m) v))
+no-midpoint-is m room v fits within =
+    ⊎-elim (λ t. rw t (no-midpoint-made m v t within room fits)) (λ f. rw f) (either (leb (baseVertices m) v))
 
 -- The table refuses what the rule refuses.
-pub any-no-midpoint-is : (m : Tables) (midpoints : List ℕ) → Room (m .header) → midpoints ≡ midpointsIn m → anyBelow (allVertices m) (noMidpointBy m midpoints) ≡ anyBelow (allVertices m) (noMidpoint m)
-any-no-midpoint-is m midpoints room is =
-    any-same (allVertices m) (noMidpointBy m midpoints) (noMidpoint m) (λ v l. rw is (no-midpoint-is m v room l))
+pub any-no-midpoint-is : (m : Tables) (midpoints : List ℕ) (room : ℕ) → allVertices m ≤ room → midpoints ≡ midpointsIn m room → anyBelow (allVertices m) (noMidpointBy m midpoints) ≡ anyBelow (allVertices m) (noMidpoint m)
+any-no-midpoint-is m midpoints room fits is =
+    any-same (allVertices m) (noMidpointBy m midpoints) (noMidpoint m) (λ v l. rw is (no-midpoint-is m room v fits l))

@@ -9,13 +9,14 @@ use stored::Header;
 use stored::Layout;
 use stored::Record;
 ghost use mathlib.Core.Path.{_≡_};
-ghost use mathlib.Core.Bool.{false};
+ghost use mathlib.Core.Bool.{false, _||_};
+ghost use Prim.Native.Nat.{_≤_};
+ghost use lib.ListN.{length};
 ghost use Rattle.laws.specs.Below.{anyBelow};
 ghost use Rattle.piece.specs.Same.{samePiece};
 ghost use Rattle.stored.specs.Layout.{recordIn};
 ghost use Rattle.mesh_tables.specs.Tables.{tables, vertexWith, refinementEnds};
 ghost use Rattle.mesh_parents.specs.Pairs.{Linked};
-ghost use Rattle.check_refusals.specs.Bounded.{orBeyond, Room};
 ghost use Rattle.check_refusals.specs.Refusals.{
   badChildren,
   tooDeep,
@@ -25,6 +26,7 @@ ghost use Rattle.check_refusals.specs.Refusals.{
 };
 ghost use Rattle.laws.specs.Counts.{countsBelow};
 ghost use Rattle.check_children.specs.Children.{childrenCounted, notChildOfOneBy, badRecordBy};
+ghost use Rattle.check_children.specs.Lent.{cramped};
 ghost use Rattle.check_children.specs.Midpoints.{midpointCounted, noMidpointBy};
 
 // The vertex with these parents; the count of vertices where there is none.
@@ -217,15 +219,16 @@ fn bad_records<'a>(
     grown: &'a [u8],
     heads: &'a [u16],
     nexts: &'a [u16],
+    children: &mut [u16],
 ) -> bool
     requires { ⌜ Linked (tables h l (now base) (now grown)) (now heads) (now nexts) ⌝ }
-    requires { ⌜ Room h ⌝ }
+    requires { ⌜ h .records ≤ length (now children) ⌝ }
     ensures { λ b. ⌜ b ≡ anyBelow (h .records) (badRecord (tables h l (now (base .entry)) (now (grown .entry)))) ⌝ }
     ensures { λ b. ⌜ (b ≡ false → now (midpoints .exit) ≡ countsBelow (midpointCounted (tables h l (now (base .entry)) (now (grown .entry)))) (now (midpoints .entry)) (h .records)) ⌝ }
 {
-    let mut children = [0u16; stored::RECORDS];
-    count_all_children(&mut children, l, base, grown, h.records as usize);
-    any_bad_record(midpoints, h, l, base, grown, heads, nexts, &children)
+    chains::clear(children);
+    count_all_children(children, l, base, grown, h.records as usize);
+    any_bad_record(midpoints, h, l, base, grown, heads, nexts, children)
 }
 
 // ---- made vertices
@@ -279,19 +282,39 @@ fn no_midpoints<'a>(
     false
 }
 
-// The tables have a place for each possible record and vertex; counts that refusal 3 refuses are refused at once.
-pub fn bad_cuts<'a>(h: Header, l: Layout, base: &'a [u8], grown: &'a [u8]) -> bool
-    ensures { λ b. ⌜ b ≡ orBeyond h (badCuts (tables h l (now (base .entry)) (now (grown .entry)))) ⌝ }
+// Whether what is lent has no room for the links of all vertices, or no place for some record or vertex.
+fn is_cramped(h: Header, heads: &[u16], nexts: &[u16], children: &[u16], midpoints: &[u16]) -> bool
+    ensures { λ b. ⌜ b ≡ cramped h (now (heads .entry)) (now (nexts .entry)) (now (children .entry)) (now (midpoints .entry)) ⌝ }
 {
-    if check_refusals::is_beyond(h) {
+    if chains::is_short(heads, nexts, h.vertices as usize) {
         return true;
     }
-    let mut heads = [0u16; mesh_parents::PAIR_HEADS];
-    let mut nexts = [0u16; stored::VERTICES];
-    let mut midpoints = [0u16; stored::VERTICES];
-    mesh_parents::link_pairs(h, l, base, grown, &mut heads, &mut nexts);
-    if bad_records(&mut midpoints, h, l, base, grown, &heads, &nexts) {
+    if children.len() < h.records as usize {
         return true;
     }
-    no_midpoints(h, l, base, grown, &heads, &nexts, &midpoints)
+    midpoints.len() < h.vertices as usize
+}
+
+// Links and tables are lent; what has no room for the mesh refuses.
+pub fn bad_cuts<'a>(
+    h: Header,
+    l: Layout,
+    base: &'a [u8],
+    grown: &'a [u8],
+    heads: &mut [u16],
+    nexts: &mut [u16],
+    children: &mut [u16],
+    midpoints: &mut [u16],
+) -> bool
+    ensures { λ b. ⌜ b ≡ (cramped h (now (heads .entry)) (now (nexts .entry)) (now (children .entry)) (now (midpoints .entry)) || badCuts (tables h l (now (base .entry)) (now (grown .entry)))) ⌝ }
+{
+    if is_cramped(h, heads, nexts, children, midpoints) {
+        return true;
+    }
+    mesh_parents::link_pairs(h, l, base, grown, heads, nexts);
+    chains::clear(midpoints);
+    if bad_records(midpoints, h, l, base, grown, heads, nexts, children) {
+        return true;
+    }
+    no_midpoints(h, l, base, grown, heads, nexts, midpoints)
 }

@@ -7,28 +7,33 @@ use piece::Piece;
 use stored::Header;
 use stored::Layout;
 ghost use mathlib.Core.Path.{_≡_};
-ghost use Prim.Native.Nat.{_≤_, _<_};
+ghost use mathlib.Core.Bool.{_||_};
+ghost use Prim.Native.Nat.{_+_, _*_, _≤_};
+ghost use lib.ListN.{length};
 ghost use Rattle.laws.specs.Below.{anyBelow};
-ghost use Rattle.laws.specs.Links.{linksOf};
-ghost use Rattle.stored.specs.Layout.{limits, recordIn};
+ghost use Rattle.laws.specs.Links.{greatest, linksOf, short, Roomy};
+ghost use Rattle.stored.specs.Layout.{recordIn};
 ghost use Rattle.mesh_tables.specs.Tables.{tables};
 ghost use Rattle.check_refusals.specs.Refusals.{badFaces, badBaseFaces};
-ghost use Rattle.check_refusals.specs.Bounded.{Room, orBeyond};
 ghost use Rattle.check_faces.specs.Faces.{isFace, isBefore, badFace};
 ghost use Rattle.check_faces.specs.Linked.{keysOf, beforeAlong, beforeFrom, badAlong, badLinked, pushedFaces, Linked};
 
-// How many faces the records may have.
-const FACES: usize = 4 * stored::RECORDS;
+// How many faces the base records may have.
+pub const FACES: usize = 4 * stored::RECORDS;
 
-// The keys of a piece's four faces.
-fn keys_of(p: [u32; 4]) -> [usize; 4]
-    ensures { λ r. ⌜ r ≡ keysOf p ⌝ }
+// The keys of a piece's four faces. The sums come first, so that the four ask one after the other how many keys there are, which is then asked once.
+fn keys_of(keys: usize, p: [u32; 4]) -> [usize; 4]
+    ensures { λ r. ⌜ r ≡ keysOf keys p ⌝ }
 {
+    let first = check_shared::corner_sum(check_shared::face_of(p, 0));
+    let second = check_shared::corner_sum(check_shared::face_of(p, 1));
+    let third = check_shared::corner_sum(check_shared::face_of(p, 2));
+    let fourth = check_shared::corner_sum(check_shared::face_of(p, 3));
     [
-        check_shared::face_key(check_shared::face_of(p, 0)),
-        check_shared::face_key(check_shared::face_of(p, 1)),
-        check_shared::face_key(check_shared::face_of(p, 2)),
-        check_shared::face_key(check_shared::face_of(p, 3)),
+        chains::key(first, keys),
+        chains::key(second, keys),
+        chains::key(third, keys),
+        chains::key(fourth, keys),
     ]
 }
 
@@ -138,13 +143,13 @@ fn bad_linked<'a>(
     heads: &[u16],
     nexts: &[u16],
     q: Piece,
-    keys: [usize; 4],
+    own: [usize; 4],
 ) -> bool
-    ensures { λ b. ⌜ b ≡ badLinked (recordIn l (now (base .entry)) (now (grown .entry))) (now (heads .entry)) (now (nexts .entry)) q keys ⌝ }
+    ensures { λ b. ⌜ b ≡ badLinked (recordIn l (now (base .entry)) (now (grown .entry))) (now (heads .entry)) (now (nexts .entry)) q own ⌝ }
 {
     let mut i: u8 = 0;
     while i < 4 {
-        let m = chains::at(heads, keys[i as usize]);
+        let m = chains::at(heads, own[i as usize]);
         if bad_along(l, base, grown, nexts, m, q, i) {
             return true;
         }
@@ -154,15 +159,15 @@ fn bad_linked<'a>(
 }
 
 // The faces of record n are put before the others with their keys.
-fn push_faces(heads: &mut [u16], nexts: &mut [u16], keys: [usize; 4], n: usize)
-    requires { ⌜ n < limits .records ⌝ }
-    ensures { λ _. ⌜ linksOf (now (heads .exit)) (now (nexts .exit)) ≡ pushedFaces (linksOf (now (heads .entry)) (now (nexts .entry))) keys n ⌝ }
+fn push_faces(heads: &mut [u16], nexts: &mut [u16], own: [usize; 4], n: usize)
+    requires { ⌜ 4 * (n + 1) ≤ greatest ⌝ }
+    ensures { λ _. ⌜ linksOf (now (heads .exit)) (now (nexts .exit)) ≡ pushedFaces (linksOf (now (heads .entry)) (now (nexts .entry))) own n ⌝ }
 {
     let f = 4 * n;
-    chains::push(heads, nexts, keys[0], f);
-    chains::push(heads, nexts, keys[1], f + 1);
-    chains::push(heads, nexts, keys[2], f + 2);
-    chains::push(heads, nexts, keys[3], f + 3);
+    chains::push(heads, nexts, own[0], f);
+    chains::push(heads, nexts, own[1], f + 1);
+    chains::push(heads, nexts, own[2], f + 2);
+    chains::push(heads, nexts, own[3], f + 3);
 }
 
 // Whether record n is bad with one before it; then its faces are linked too.
@@ -174,16 +179,16 @@ fn bad_record<'a>(
     nexts: &mut [u16],
     n: usize,
 ) -> bool
-    requires { ⌜ n < limits .records ⌝ }
-    ensures { λ b. ⌜ b ≡ badLinked (recordIn l (now (base .entry)) (now (grown .entry))) (now (heads .entry)) (now (nexts .entry)) (recordIn l (now (base .entry)) (now (grown .entry)) n .piece) (keysOf (recordIn l (now (base .entry)) (now (grown .entry)) n .piece .corners)) ⌝ }
-    ensures { λ _. ⌜ linksOf (now (heads .exit)) (now (nexts .exit)) ≡ pushedFaces (linksOf (now (heads .entry)) (now (nexts .entry))) (keysOf (recordIn l (now (base .entry)) (now (grown .entry)) n .piece .corners)) n ⌝ }
+    requires { ⌜ 4 * (n + 1) ≤ greatest ⌝ }
+    ensures { λ b. ⌜ b ≡ badLinked (recordIn l (now (base .entry)) (now (grown .entry))) (now (heads .entry)) (now (nexts .entry)) (recordIn l (now (base .entry)) (now (grown .entry)) n .piece) (keysOf (length (now (heads .entry))) (recordIn l (now (base .entry)) (now (grown .entry)) n .piece .corners)) ⌝ }
+    ensures { λ _. ⌜ linksOf (now (heads .exit)) (now (nexts .exit)) ≡ pushedFaces (linksOf (now (heads .entry)) (now (nexts .entry))) (keysOf (length (now (heads .entry))) (recordIn l (now (base .entry)) (now (grown .entry)) n .piece .corners)) n ⌝ }
 {
     let record = stored_entries::record_in(l, base, grown, n);
     let q = record.piece;
     let c = q.corners;
-    let keys = keys_of(c);
-    let bad = bad_linked(l, base, grown, heads, nexts, q, keys);
-    push_faces(heads, nexts, keys, n);
+    let own = keys_of(heads.len(), c);
+    let bad = bad_linked(l, base, grown, heads, nexts, q, own);
+    push_faces(heads, nexts, own, n);
     bad
 }
 
@@ -196,7 +201,8 @@ fn bad_below<'a>(
     nexts: &mut [u16],
     count: usize,
 ) -> bool
-    requires { ⌜ Linked (recordIn l (now base) (now grown)) 0 (linksOf (now heads) (now nexts)) × (count ≤ limits .records) ⌝ }
+    requires { ⌜ Linked (recordIn l (now base) (now grown)) (length (now heads)) (length (now nexts)) 0 (linksOf (now heads) (now nexts)) ⌝ }
+    requires { ⌜ Roomy (now heads) (now nexts) (4 * count) ⌝ }
     ensures { λ b. ⌜ b ≡ anyBelow count (badFaces (recordIn l (now (base .entry)) (now (grown .entry)))) ⌝ }
 {
     let mut n: usize = 0;
@@ -209,27 +215,21 @@ fn bad_below<'a>(
     false
 }
 
-fn bad_within<'a>(h: Header, l: Layout, base: &'a [u8], grown: &'a [u8]) -> bool
-    requires { ⌜ Room h ⌝ }
-    ensures { λ b. ⌜ b ≡ badBaseFaces (tables h l (now (base .entry)) (now (grown .entry))) ⌝ }
+// In links that are empty at first, whatever stood in the lists. Lists that are too short for the faces are answered at once.
+pub fn bad_base_faces<'a>(
+    h: Header,
+    l: Layout,
+    base: &'a [u8],
+    grown: &'a [u8],
+    heads: &mut [u16],
+    nexts: &mut [u16],
+) -> bool
+    ensures { λ b. ⌜ b ≡ (short (now (heads .entry)) (now (nexts .entry)) (4 * h .«base_records») || badBaseFaces (tables h l (now (base .entry)) (now (grown .entry)))) ⌝ }
 {
-    let mut heads = [0u16; check_shared::FACE_HEADS];
-    let mut nexts = [0u16; FACES];
-    bad_below(
-        l,
-        base,
-        grown,
-        &mut heads,
-        &mut nexts,
-        h.base_records as usize,
-    )
-}
-
-pub fn bad_base_faces<'a>(h: Header, l: Layout, base: &'a [u8], grown: &'a [u8]) -> bool
-    ensures { λ b. ⌜ b ≡ orBeyond h (badBaseFaces (tables h l (now (base .entry)) (now (grown .entry)))) ⌝ }
-{
-    if check_refusals::is_beyond(h) {
+    let count = h.base_records as usize;
+    if chains::is_short(heads, nexts, 4 * count) {
         return true;
     }
-    bad_within(h, l, base, grown)
+    chains::clear(heads);
+    bad_below(l, base, grown, heads, nexts, count)
 }

@@ -1,17 +1,18 @@
 -- The place found hanging, as the search returns it.
 use mathlib.Core.Path.{_≡_, refl}
 use mathlib.Core.Bool.{Bool, true, false, cond}
+use mathlib.Core.List.{List}
 use Prim.Native.Nat.{ℕ, _≤_, _<_}
 use native.Mathlib.Omega.{arith}
 use borrow.Author.Tests.{lt-leb}
 use Rattle.laws.specs.Below.{anyBelow, any-is, any-fails, firstBelow, first-is, and-false}
+use Rattle.laws.specs.Links.{short, Roomy, not-short}
 use Rattle.piece.specs.declared.Ends.{Ends}
 use Rattle.piece.specs.Ends.{endsOf}
 use Rattle.check_hanging.specs.declared.Found.{Found}
 use Rattle.check_hanging.specs.declared.Found.the-variants.{At, Nothing}
 use Rattle.check_refusals.specs.declared.Report.{Report}
 use Rattle.mesh_tables.specs.Tables.{Tables, baseVertices, allVertices, allRecords, pieceAt, isLeaf, hasParents, hangs, hangsAt, leafHangs, hangingEdge}
-use Rattle.check_refusals.specs.Bounded.{Bounded, beyond, not-beyond}
 use Rattle.check_refusals.specs.Check.{firstHanging, refusedWith, hangingReport}
 
 unfoldable pub foundOf : Tables → Found
@@ -35,14 +36,14 @@ found-reported m = go (hangingEdge m)
     go true = refl
     go false = refl
 
--- Counts beyond their limits have been refused before: there nothing is looked for.
-unfoldable pub foundWithin : Tables → Found
-foundWithin m = let found = foundOf m in cond (beyond (m .header)) Nothing found
+-- With lists that are too short for the links nothing is looked for.
+unfoldable pub foundAlong : List ℕ → List ℕ → Tables → Found
+foundAlong heads nexts m = let found = foundOf m in cond (short heads nexts (allVertices m)) Nothing found
 
--- Within the limits it is the place found.
-pub within-found : (m : Tables) → Bounded (m .header) → foundWithin m ≡ foundOf m
-unfolding foundWithin
-within-found m b = rw (not-beyond (m .header) b)
+-- With room for them it is the place found.
+pub roomy-found : (heads nexts : List ℕ) (m : Tables) → Roomy heads nexts (allVertices m) → foundAlong heads nexts m ≡ foundOf m
+unfolding foundAlong
+roomy-found heads nexts m r = rw (not-short heads nexts (allVertices m) r)
 
 module _ (m : Tables) (n e : ℕ) (ends : Ends) (is : ends ≡ endsOf (pieceAt m n) e) where
   -- No made vertex has its ends as parents: the edge does not hang.

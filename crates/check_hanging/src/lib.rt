@@ -4,7 +4,7 @@ use stored::Layout;
 ghost use mathlib.Core.Path.{_≡_};
 ghost use Rattle.mesh_tables.specs.Tables.{tables};
 ghost use Rattle.mesh_parents.specs.Pairs.{Linked};
-ghost use Rattle.check_hanging.specs.Hanging.{foundOf, foundWithin};
+ghost use Rattle.check_hanging.specs.Hanging.{foundOf, foundAlong};
 
 // A record's number and an edge code.
 pub enum Found {
@@ -57,19 +57,24 @@ fn search<'a>(
     found
 }
 
-// The first edge found hanging. The made vertices are linked by their parents first; where there is none, none hangs, and where a count is
-// beyond its limit there is no room for the links, and refusal 3 has been given.
-pub fn first_hanging<'a>(h: Header, l: Layout, base: &'a [u8], grown: &'a [u8]) -> Found
-    ensures { λ r. ⌜ r ≡ foundWithin (tables h l (now (base .entry)) (now (grown .entry))) ⌝ }
+// The first edge found hanging. The made vertices are linked by their parents first, in lists that are lent; where there is none, none hangs, and where the
+// lists are too short for the links, nothing is looked for.
+pub fn first_hanging<'a>(
+    h: Header,
+    l: Layout,
+    base: &'a [u8],
+    grown: &'a [u8],
+    heads: &mut [u16],
+    nexts: &mut [u16],
+) -> Found
+    ensures { λ r. ⌜ r ≡ foundAlong (now (heads .entry)) (now (nexts .entry)) (tables h l (now (base .entry)) (now (grown .entry))) ⌝ }
 {
-    if check_refusals::is_beyond(h) {
+    if chains::is_short(heads, nexts, h.vertices as usize) {
         return Found::Nothing;
     }
     if h.vertices <= h.base_vertices {
         return Found::Nothing;
     }
-    let mut heads = [0u16; mesh_parents::PAIR_HEADS];
-    let mut nexts = [0u16; stored::VERTICES];
-    mesh_parents::link_pairs(h, l, base, grown, &mut heads, &mut nexts);
-    search(h, l, base, grown, &heads, &nexts)
+    mesh_parents::link_pairs(h, l, base, grown, heads, nexts);
+    search(h, l, base, grown, heads, nexts)
 }

@@ -1,22 +1,22 @@
 // Refusal 4: vertices off the grid, out of place or with a parent pair used twice. Base vertices are linked by their places and made ones by their
-// parents, each after it was judged, so that of those before it only the ones with its key are looked at.
+// parents, in one chain, each after it was judged, so that of those before it only the ones with its key are looked at.
 use grid::Place;
 use piece::Ends;
 use stored::Header;
 use stored::Layout;
 use stored::Vertex;
 ghost use mathlib.Core.Path.{_≡_};
-ghost use Rattle.laws.specs.Links.{linksOf, pushed};
+ghost use mathlib.Core.Bool.{_||_};
+ghost use lib.ListN.{length};
+ghost use Rattle.laws.specs.Links.{linksOf, pushed, short, Roomy};
 ghost use Rattle.grid.specs.Places.{samePlace};
 ghost use Rattle.stored.specs.Layout.{vertexIn};
 ghost use Rattle.mesh_tables.specs.Tables.{tables};
 ghost use Rattle.check_refusals.specs.Refusals.{badBaseVertex, badMadeVertex, pairTwice, badVertex, badVertices};
-ghost use Rattle.check_refusals.specs.Bounded.{Room, orBeyond};
-ghost use Rattle.mesh_parents.specs.Pairs.{pairHeads, keyOf};
-ghost use Rattle.check_places.specs.Kept.{placeHeads, placeKey, placeKeyOf, VerticesKept, placeAlong};
+ghost use Rattle.check_places.specs.Kept.{placeKey, vertexKey, VerticesKept, placeAlong};
 
-// How many keys places have: a prime, so that places that are far apart on the grid have keys of their own too.
-const PLACE_HEADS: usize = 1021;
+// Places' keys are taken modulo a prime, so that places that are far apart on the grid have keys of their own too.
+const PRIME: usize = 8191;
 
 fn bad_base_vertex(v: Vertex) -> bool
     ensures { λ r. ⌜ r ≡ badBaseVertex v ⌝ }
@@ -38,14 +38,14 @@ fn stands_at<'a>(l: Layout, base: &'a [u8], grown: &'a [u8], u: usize, place: Pl
     grid::same_place(there, place)
 }
 
-// The key of a place, in steps of the grid. The factors differ, so that a step along each axis leads to another key.
-fn place_key(place: Place) -> usize
-    ensures { λ r. ⌜ r ≡ placeKey place ⌝ }
+// The key of a place, in steps of the grid, one of so many. The factors differ, so that a step along each axis leads to another key.
+fn place_key(keys: usize, place: Place) -> usize
+    ensures { λ r. ⌜ r ≡ placeKey keys place ⌝ }
 {
     let x = place.x as usize;
     let y = place.y as usize;
     let z = place.z as usize;
-    (x / 32 * 37 + y / 32 * 101 + z / 32 * 3) % PLACE_HEADS
+    chains::key((x / 32 * 37 + y / 32 * 101 + z / 32 * 3) % PRIME, keys)
 }
 
 // Whether a vertex along the links stands at this place.
@@ -59,7 +59,7 @@ fn place_along<'a>(
 ) -> bool
     ensures { λ r. ⌜ r ≡ placeAlong (vertexIn l (now (base .entry)) (now (grown .entry))) (now (heads .entry)) (now (nexts .entry)) place ⌝ }
 {
-    let mut to = chains::at(heads, place_key(place));
+    let mut to = chains::at(heads, place_key(heads.len(), place));
     while 0 < to {
         let u = to - 1;
         if stands_at(l, base, grown, u, place) {
@@ -98,7 +98,7 @@ fn pair_twice<'a>(
     nexts: &'a [u16],
     v: usize,
 ) -> bool
-    requires { ⌜ VerticesKept (keyOf (tables h l (now base) (now grown))) pairHeads v (now heads) (now nexts) ⌝ }
+    requires { ⌜ VerticesKept (tables h l (now base) (now grown)) v (now heads) (now nexts) ⌝ }
     ensures { λ r. ⌜ r ≡ pairTwice (tables h l (now (base .entry)) (now (grown .entry))) v ⌝ }
 {
     let parents = stored_entries::parents_in(l, base, grown, v);
@@ -116,14 +116,11 @@ fn bad_vertex<'a>(
     l: Layout,
     base: &'a [u8],
     grown: &'a [u8],
-    place_heads: &'a [u16],
-    place_nexts: &'a [u16],
-    pair_heads: &'a [u16],
-    pair_nexts: &'a [u16],
+    heads: &'a [u16],
+    nexts: &'a [u16],
     v: usize,
 ) -> bool
-    requires { ⌜ VerticesKept (placeKeyOf (tables h l (now base) (now grown))) placeHeads v (now «place_heads») (now «place_nexts») ⌝ }
-    requires { ⌜ VerticesKept (keyOf (tables h l (now base) (now grown))) pairHeads v (now «pair_heads») (now «pair_nexts») ⌝ }
+    requires { ⌜ VerticesKept (tables h l (now base) (now grown)) v (now heads) (now nexts) ⌝ }
     ensures { λ r. ⌜ r ≡ badVertex (tables h l (now (base .entry)) (now (grown .entry))) v ⌝ }
 {
     if v < h.base_vertices as usize {
@@ -132,26 +129,40 @@ fn bad_vertex<'a>(
             return true;
         }
         let place = vertex.place;
-        return place_along(l, base, grown, place_heads, place_nexts, place);
+        return place_along(l, base, grown, heads, nexts, place);
     }
     if bad_made_vertex(l, base, grown, v) {
         return true;
     }
-    pair_twice(h, l, base, grown, pair_heads, pair_nexts, v)
+    pair_twice(h, l, base, grown, heads, nexts, v)
 }
 
-// The key of vertex v's place: past the heads if it is made.
-fn vertex_key<'a>(h: Header, l: Layout, base: &'a [u8], grown: &'a [u8], v: usize) -> usize
-    ensures { λ r. ⌜ r ≡ placeKeyOf (tables h l (now (base .entry)) (now (grown .entry))) v ⌝ }
+// The key of vertex v: that of its place, and of its parents if it is made.
+fn vertex_key<'a>(
+    h: Header,
+    l: Layout,
+    base: &'a [u8],
+    grown: &'a [u8],
+    keys: usize,
+    v: usize,
+) -> usize
+    ensures { λ r. ⌜ r ≡ vertexKey keys (tables h l (now (base .entry)) (now (grown .entry))) v ⌝ }
 {
     if v < h.base_vertices as usize {
-        return place_key(stored_entries::place_in(l, base, grown, v));
+        return place_key(keys, stored_entries::place_in(l, base, grown, v));
     }
-    PLACE_HEADS
+    let parents = stored_entries::parents_in(l, base, grown, v);
+    mesh_parents::pair_key(
+        keys,
+        Ends {
+            lower: parents.p,
+            higher: parents.q,
+        },
+    )
 }
 
-// Vertex v is put before the others with its place's key.
-fn link_place<'a>(
+// Vertex v is put before the others with its key.
+fn link_vertex<'a>(
     h: Header,
     l: Layout,
     base: &'a [u8],
@@ -160,50 +171,52 @@ fn link_place<'a>(
     nexts: &mut [u16],
     v: usize,
 )
-    ensures { λ _. ⌜ now (heads .exit) ≡ pushed (linksOf (now (heads .entry)) (now (nexts .entry))) (placeKeyOf (tables h l (now (base .entry)) (now (grown .entry))) v) v .heads ⌝ }
-    ensures { λ _. ⌜ now (nexts .exit) ≡ pushed (linksOf (now (heads .entry)) (now (nexts .entry))) (placeKeyOf (tables h l (now (base .entry)) (now (grown .entry))) v) v .nexts ⌝ }
+    ensures { λ _. ⌜ now (heads .exit) ≡ pushed (linksOf (now (heads .entry)) (now (nexts .entry))) (vertexKey (length (now (heads .entry))) (tables h l (now (base .entry)) (now (grown .entry))) v) v .heads ⌝ }
+    ensures { λ _. ⌜ now (nexts .exit) ≡ pushed (linksOf (now (heads .entry)) (now (nexts .entry))) (vertexKey (length (now (heads .entry))) (tables h l (now (base .entry)) (now (grown .entry))) v) v .nexts ⌝ }
 {
-    let key = vertex_key(h, l, base, grown, v);
+    let key = vertex_key(h, l, base, grown, heads.len(), v);
     chains::push(heads, nexts, key, v);
 }
 
 // Each vertex is judged by those before it, and then linked.
-fn bad_within<'a>(h: Header, l: Layout, base: &'a [u8], grown: &'a [u8]) -> bool
-    requires { ⌜ Room h ⌝ }
+fn any_bad<'a>(
+    h: Header,
+    l: Layout,
+    base: &'a [u8],
+    grown: &'a [u8],
+    heads: &mut [u16],
+    nexts: &mut [u16],
+) -> bool
+    requires { ⌜ VerticesKept (tables h l (now base) (now grown)) 0 (now heads) (now nexts) ⌝ }
+    requires { ⌜ Roomy (now heads) (now nexts) (h .vertices) ⌝ }
     ensures { λ r. ⌜ r ≡ badVertices (tables h l (now (base .entry)) (now (grown .entry))) ⌝ }
 {
-    let mut place_heads = [0u16; PLACE_HEADS];
-    let mut place_nexts = [0u16; stored::VERTICES];
-    let mut pair_heads = [0u16; mesh_parents::PAIR_HEADS];
-    let mut pair_nexts = [0u16; stored::VERTICES];
     let count = h.vertices as usize;
     let mut v: usize = 0;
     while v < count {
-        if bad_vertex(
-            h,
-            l,
-            base,
-            grown,
-            &place_heads,
-            &place_nexts,
-            &pair_heads,
-            &pair_nexts,
-            v,
-        ) {
+        if bad_vertex(h, l, base, grown, heads, nexts, v) {
             return true;
         }
-        link_place(h, l, base, grown, &mut place_heads, &mut place_nexts, v);
-        mesh_parents::link_vertex(h, l, base, grown, &mut pair_heads, &mut pair_nexts, v);
+        link_vertex(h, l, base, grown, heads, nexts, v);
         v += 1;
     }
     false
 }
 
-pub fn bad_vertices<'a>(h: Header, l: Layout, base: &'a [u8], grown: &'a [u8]) -> bool
-    ensures { λ r. ⌜ r ≡ orBeyond h (badVertices (tables h l (now (base .entry)) (now (grown .entry)))) ⌝ }
+// The links are lent; lists that are too short for them refuse.
+pub fn bad_vertices<'a>(
+    h: Header,
+    l: Layout,
+    base: &'a [u8],
+    grown: &'a [u8],
+    heads: &mut [u16],
+    nexts: &mut [u16],
+) -> bool
+    ensures { λ r. ⌜ r ≡ (short (now (heads .entry)) (now (nexts .entry)) (h .vertices) || badVertices (tables h l (now (base .entry)) (now (grown .entry)))) ⌝ }
 {
-    if check_refusals::is_beyond(h) {
+    if chains::is_short(heads, nexts, h.vertices as usize) {
         return true;
     }
-    bad_within(h, l, base, grown)
+    chains::clear(heads);
+    any_bad(h, l, base, grown, heads, nexts)
 }

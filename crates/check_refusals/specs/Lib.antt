@@ -3,3 +3,4 @@ pub mod Refusals
 pub mod Check
 pub mod Rows
 pub mod Bounded
+pub mod Lent

@@ -5,10 +5,12 @@ use stored::Header;
 use stored::Layout;
 use stored::Limits;
 ghost use mathlib.Core.Path.{_≡_};
+ghost use lib.ListN.{length};
 ghost use Rattle.mesh_tables.specs.Tables.{tables};
 ghost use Rattle.check_refusals.specs.Refusals.{wrongCounts};
 ghost use Rattle.check_refusals.specs.Check.{refusedWith, accepted, CheckOutcomeIs};
 ghost use Rattle.check_refusals.specs.Bounded.{Bounded};
+ghost use Rattle.check_refusals.specs.Lent.{LinksFit, LentToBase, LentToCuts};
 ghost use Rattle.check_hanging.specs.Hanging.{foundOf, noneBroken, reported};
 ghost use Rattle.check_service.specs.Verdict.{VerdictIs};
 ghost use Rattle.check_service.specs.Order.{baseNumber, cutsReport, judgedReport};
@@ -56,11 +58,18 @@ fn wrong_counts(most: Limits, h: Header) -> bool
 }
 
 // Refusal 10, or none.
-fn closed<'a>(h: Header, l: Layout, base: &'a [u8], grown: &'a [u8]) -> Report
-    requires { ⌜ Bounded h ⌝ }
+fn closed<'a>(
+    h: Header,
+    l: Layout,
+    base: &'a [u8],
+    grown: &'a [u8],
+    heads: &mut [u16],
+    links: &mut [u16],
+) -> Report
+    requires { ⌜ LinksFit (length (now heads)) (length (now links)) (h .vertices) ⌝ }
     ensures { λ r. ⌜ r ≡ reported (foundOf (tables h l (now (base .entry)) (now (grown .entry)))) ⌝ }
 {
-    let found = check_hanging::first_hanging(h, l, base, grown);
+    let found = check_hanging::first_hanging(h, l, base, grown, heads, links);
     match found {
         Found::At(n, e) => Report {
             number: 10,
@@ -75,11 +84,20 @@ fn closed<'a>(h: Header, l: Layout, base: &'a [u8], grown: &'a [u8]) -> Report
 }
 
 // Refusals 4 to 8, of the vertices and the base, tried in their order, or 0.
-fn judged_base<'a>(h: Header, l: Layout, base: &'a [u8], grown: &'a [u8]) -> u64
-    requires { ⌜ Bounded h ⌝ }
+fn judged_base<'a>(
+    h: Header,
+    l: Layout,
+    base: &'a [u8],
+    grown: &'a [u8],
+    heads: &mut [u16],
+    face_heads: &mut [u16],
+    links: &mut [u16],
+    uses: &mut [u16],
+) -> u64
+    requires { ⌜ LentToBase h (length (now heads)) (length (now «face_heads»)) (length (now links)) (length (now uses)) ⌝ }
     ensures { λ r. ⌜ r ≡ baseNumber (tables h l (now (base .entry)) (now (grown .entry))) ⌝ }
 {
-    if check_places::bad_vertices(h, l, base, grown) {
+    if check_places::bad_vertices(h, l, base, grown, heads, links) {
         return 4;
     }
     if check_pieces::bad_base_records(h, l, base, grown) {
@@ -88,36 +106,80 @@ fn judged_base<'a>(h: Header, l: Layout, base: &'a [u8], grown: &'a [u8]) -> u64
     if check_marks::bad_base_marks(h, l, base, grown) {
         return 6;
     }
-    if check_faces::bad_base_faces(h, l, base, grown) {
+    if check_faces::bad_base_faces(h, l, base, grown, face_heads, links) {
         return 7;
     }
-    if check_uses::unused_vertices(h, l, base, grown) {
+    if check_uses::unused_vertices(h, l, base, grown, uses) {
         return 8;
     }
     0
 }
 
 // Refusals 9 and 10, of the cuts, tried in their order, or none.
-fn judged_cuts<'a>(h: Header, l: Layout, base: &'a [u8], grown: &'a [u8]) -> Report
-    requires { ⌜ Bounded h ⌝ }
+fn judged_cuts<'a>(
+    h: Header,
+    l: Layout,
+    base: &'a [u8],
+    grown: &'a [u8],
+    heads: &mut [u16],
+    links: &mut [u16],
+    children: &mut [u16],
+    midpoints: &mut [u16],
+) -> Report
+    requires { ⌜ LentToCuts h (length (now heads)) (length (now links)) (length (now children)) (length (now midpoints)) ⌝ }
     ensures { λ r. ⌜ r ≡ cutsReport (tables h l (now (base .entry)) (now (grown .entry))) ⌝ }
 {
-    if check_children::bad_cuts(h, l, base, grown) {
+    if check_children::bad_cuts(h, l, base, grown, heads, links, children, midpoints) {
         return refused(9);
     }
-    closed(h, l, base, grown)
+    closed(h, l, base, grown, heads, links)
 }
 
-// Refusals 4 to 10, or none.
+// Refusals 4 to 10, or none. Each vertex has one count, of its uses and then of the edges that it halves.
+fn judged_with<'a>(
+    h: Header,
+    l: Layout,
+    base: &'a [u8],
+    grown: &'a [u8],
+    heads: &mut [u16],
+    face_heads: &mut [u16],
+    links: &mut [u16],
+    uses: &mut [u16],
+    children: &mut [u16],
+) -> Report
+    requires { ⌜ LentToBase h (length (now heads)) (length (now «face_heads»)) (length (now links)) (length (now uses)) ⌝ }
+    requires { ⌜ LentToCuts h (length (now heads)) (length (now links)) (length (now children)) (length (now uses)) ⌝ }
+    ensures { λ r. ⌜ r ≡ judgedReport (tables h l (now (base .entry)) (now (grown .entry))) ⌝ }
+{
+    let number = judged_base(h, l, base, grown, heads, face_heads, links, uses);
+    if number != 0 {
+        return refused(number);
+    }
+    judged_cuts(h, l, base, grown, heads, links, children, uses)
+}
+
+// The working memory of all rules is made here, and lent to them.
 fn judged<'a>(h: Header, l: Layout, base: &'a [u8], grown: &'a [u8]) -> Report
     requires { ⌜ Bounded h ⌝ }
     ensures { λ r. ⌜ r ≡ judgedReport (tables h l (now (base .entry)) (now (grown .entry))) ⌝ }
 {
-    let number = judged_base(h, l, base, grown);
-    if number != 0 {
-        return refused(number);
-    }
-    judged_cuts(h, l, base, grown)
+    let mut heads = [0u16; chains::KEYS];
+    let mut face_heads = [0u16; chains::FACE_KEYS];
+    let mut links = [0u16; check_faces::FACES];
+    // "one count for each of the 1,024 possible vertices": [0; 1024]
+    let mut uses = [0u16; stored::VERTICES];
+    let mut children = [0u16; stored::RECORDS];
+    judged_with(
+        h,
+        l,
+        base,
+        grown,
+        &mut heads,
+        &mut face_heads,
+        &mut links,
+        &mut uses,
+        &mut children,
+    )
 }
 
 // Check's answer without the figures.

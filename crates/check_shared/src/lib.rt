@@ -1,15 +1,12 @@
-// Two pieces compared by a face that they share: a face is a set of corner numbers, and so is a piece. A face's key is made of its corners, so that the
+// Two pieces compared by a face that they share: a face is a set of corner numbers, and so is a piece. A sum is made of a face's corners, so that the
 // face is found by it.
 ghost use mathlib.Core.Path.{_≡_};
 ghost use mathlib.Core.Bool.{cond};
 ghost use Prim.Native.Nat.{max};
 ghost use Rattle.check_shared.specs.Faces.{faceOf, holds, inside, sameSet};
-ghost use Rattle.check_shared.specs.Keys.{under, mostUnder, keyOf};
+ghost use Rattle.check_shared.specs.Sums.{under, mostUnder, cornerSum};
 ghost use Rattle.check_shared.specs.Rest.{has, sameRest};
 ghost use Rattle.check_shared.specs.Marks.{sameTwo, sameEdge};
-
-// How many keys there are.
-pub const FACE_HEADS: usize = 32768;
 
 // The corners of a face.
 pub struct Face {
@@ -88,15 +85,15 @@ fn most_under(top: u32, f: Face) -> u32
     greater(x, only_under(top, f.c))
 }
 
-// A face's key is made of its corners in falling order. The factors move faces of one sum apart, and are odd, so that modulo a power of two every
-// corner counts in full.
-pub fn face_key(f: Face) -> usize
-    ensures { λ r. ⌜ r ≡ keyOf f ⌝ }
+// The sum of a face's corners in falling order, each with its factor. The factors move apart faces whose corners add up to the same, and are odd, so that
+// modulo a power of two every corner counts in full.
+pub fn corner_sum(f: Face) -> usize
+    ensures { λ r. ⌜ r ≡ cornerSum f ⌝ }
 {
     let first = greater(greater(f.a, f.b), f.c);
     let second = most_under(first, f);
     let third = most_under(second, f);
-    (first as usize + 37 * (second as usize) + 1029 * (third as usize)) % FACE_HEADS
+    first as usize + 37 * (second as usize) + 1029 * (third as usize)
 }
 
 fn has_corner(p: [u32; 4], x: u32) -> bool

@@ -2,17 +2,17 @@
 use mathlib.Core.Path.{_≡_, refl, _∙_}
 use mathlib.Core.Bool.{Bool, true, false, _||_}
 use mathlib.Core.List.{List}
-use Prim.Native.Nat.{ℕ, _<_}
+use Prim.Native.Nat.{ℕ, _≤_, _<_}
+use native.Mathlib.Omega.{arith}
 use lib.ListN.{length, getD, replicate}
 use lib.Dec.{eqb}
-use Rattle.laws.specs.Below.{anyBelow}
+use Rattle.laws.specs.Below.{anyBelow, any-same}
 use Rattle.laws.specs.Links.{countedAt, counted-long}
 use Rattle.laws.specs.Counts.{countsBelow, marked, counted-marked, Marking, counts-zero}
 use Rattle.piece.specs.declared.Piece.{Piece}
 use Rattle.piece.specs.Ends.{cornerAt}
-use Rattle.stored.specs.Layout.{limits}
-use Rattle.mesh_tables.specs.Tables.{Tables, pieceAt, baseRecords}
-use Rattle.check_refusals.specs.Refusals.{hasCorner, unusedVertex}
+use Rattle.mesh_tables.specs.Tables.{Tables, pieceAt, baseVertices, baseRecords}
+use Rattle.check_refusals.specs.Refusals.{hasCorner, unusedVertex, unusedVertices}
 
 -- One use more of each of a piece's four corners.
 unfoldable pub usedBy : List ℕ → List ℕ → List ℕ
@@ -48,12 +48,13 @@ used-marked uses p v l =
 pub uses-marking : (at : ℕ → Piece) → Marking (λ t n. usedBy t (at n .corners)) (λ n v. hasCorner (at n) v)
 uses-marking at = record { long = λ t n. used-long t (at n .corners); marks = λ t n v l. used-marked t (at n) v l }
 
--- The table of the base records.
-abbrev pub usesIn : Tables → List ℕ
-usesIn m = countsBelow (λ t n. usedBy t (pieceAt m n .corners)) (replicate (limits .vertices) 0) (baseRecords m)
+-- The table of the base records, with room for so many vertices.
+abbrev pub usesIn : Tables → ℕ → List ℕ
+usesIn m room = countsBelow (λ t n. usedBy t (pieceAt m n .corners)) (replicate room 0) (baseRecords m)
 
--- A vertex is in no base record exactly if its count is 0.
-pub unused-is : (m : Tables) (v : ℕ) → v < limits .vertices → eqb (getD (usesIn m) v 0) 0 ≡ unusedVertex m v
-unfolding unusedVertex
-unused-is m v l =
-    counts-zero (λ t n. usedBy t (pieceAt m n .corners)) (λ n x. hasCorner (pieceAt m n) x) (uses-marking (pieceAt m)) (limits .vertices) (baseRecords m) v l
+-- A vertex is in no base record exactly if its count is 0: what the table says of all base vertices is what the rule says.
+pub unused-is : (m : Tables) (room : ℕ) → baseVertices m ≤ room → anyBelow (baseVertices m) (λ v. eqb (getD (usesIn m room) v 0) 0) ≡ unusedVertices m
+unfolding unusedVertices unusedVertex
+unused-is m room fits =
+    any-same (baseVertices m) (λ v. eqb (getD (usesIn m room) v 0) 0) (unusedVertex m)
+    (λ v l. counts-zero (λ t n. usedBy t (pieceAt m n .corners)) (λ n x. hasCorner (pieceAt m n) x) (uses-marking (pieceAt m)) room (baseRecords m) v (omega arith))

@@ -2,11 +2,14 @@
 use stored::Header;
 use stored::Layout;
 ghost use mathlib.Core.Path.{_≡_};
+ghost use mathlib.Core.Bool.{_||_};
+ghost use lib.Dec.{eqb, ltb};
+ghost use lib.ListN.{length, getD};
+ghost use Rattle.laws.specs.Below.{anyBelow};
 ghost use Rattle.laws.specs.Counts.{countsBelow};
 ghost use Rattle.stored.specs.Layout.{recordIn};
 ghost use Rattle.mesh_tables.specs.Tables.{tables};
 ghost use Rattle.check_refusals.specs.Refusals.{unusedVertices};
-ghost use Rattle.check_refusals.specs.Bounded.{Room, orBeyond};
 ghost use Rattle.check_uses.specs.Uses.{usedBy};
 
 // One use more of each of a piece's four corners, if the table has it.
@@ -36,17 +39,13 @@ fn count_records<'a>(uses: &mut [u16], l: Layout, base: &'a [u8], grown: &'a [u8
     }
 }
 
-fn unused_by_table<'a>(h: Header, l: Layout, base: &'a [u8], grown: &'a [u8]) -> bool
-    requires { ⌜ Room h ⌝ }
-    ensures { λ r. ⌜ r ≡ unusedVertices (tables h l (now (base .entry)) (now (grown .entry))) ⌝ }
+// Whether the table has a vertex below count that was never counted.
+fn any_unused(uses: &[u16], count: usize) -> bool
+    ensures { λ r. ⌜ r ≡ anyBelow count (λ v. eqb (getD (now (uses .entry)) v 0) 0) ⌝ }
 {
-    // "one count for each of the 1,024 possible vertices": [0; 1024]
-    let mut uses = [0u16; stored::VERTICES];
-    count_records(&mut uses, l, base, grown, h.base_records as usize);
-    let count = h.base_vertices as usize;
     let mut v: usize = 0;
     while v < count {
-        if uses[v] == 0 {
+        if chains::at(uses, v) == 0 {
             return true;
         }
         v += 1;
@@ -54,12 +53,20 @@ fn unused_by_table<'a>(h: Header, l: Layout, base: &'a [u8], grown: &'a [u8]) ->
     false
 }
 
-// The table has a place for each possible vertex.
-pub fn unused_vertices<'a>(h: Header, l: Layout, base: &'a [u8], grown: &'a [u8]) -> bool
-    ensures { λ r. ⌜ r ≡ orBeyond h (unusedVertices (tables h l (now (base .entry)) (now (grown .entry)))) ⌝ }
+// "one count for each of the 1,024 possible vertices": the table is lent by the service, as [0; 1024]. One with no place for some vertex refuses.
+pub fn unused_vertices<'a>(
+    h: Header,
+    l: Layout,
+    base: &'a [u8],
+    grown: &'a [u8],
+    uses: &mut [u16],
+) -> bool
+    ensures { λ r. ⌜ r ≡ (ltb (length (now (uses .entry))) (h .«base_vertices») || unusedVertices (tables h l (now (base .entry)) (now (grown .entry)))) ⌝ }
 {
-    if check_refusals::is_beyond(h) {
+    if uses.len() < h.base_vertices as usize {
         return true;
     }
-    unused_by_table(h, l, base, grown)
+    chains::clear(uses);
+    count_records(uses, l, base, grown, h.base_records as usize);
+    any_unused(uses, h.base_vertices as usize)
 }

@@ -1,5 +1,5 @@
--- A table of counts that is filled one number after the other, each of which counts one more at some entries: every entry then says how many have counted there,
--- and whether any has, however many there are.
+-- A table of counts that is filled one number after the other, each of which counts one more at some entries: every entry then says whether exactly one has
+-- counted there, and whether any has, however many there are.
 use mathlib.Core.Path.{_≡_, refl, sym, ap, _∙_}
 use mathlib.Core.Bool.{Bool, true, false, not, _||_, or-false}
 use mathlib.Core.Logic.{⊎-elim}
@@ -11,7 +11,7 @@ use native.Mathlib.Omega.{arith}
 use lib.ListN.{length, getD, replicate, length-replicate, getD-replicate, List·getD-eq-default}
 use lib.Dec.{eqb, ltb}
 use borrow.Author.Tests.{eqb-true, eqb-false, eq-eqb, ne-eqb, ltb-true, ltb-false}
-use Rattle.laws.specs.Below.{anyBelow, any-none, any-suc, countBelow, count-none, count-suc, count-at-most, bit, or-true, either}
+use Rattle.laws.specs.Below.{anyBelow, any-none, any-suc, countBelow, count-none, count-suc, bit, bit-small, or-true, either}
 use Rattle.laws.specs.Links.{greatest, countedAt, counted-full, counted-long, counted-at}
 
 -- The table after the numbers below n, each of which has changed it by add.
@@ -40,41 +40,66 @@ pub counts-long : (add : List ℕ → ℕ → List ℕ) → ((t : List ℕ) (k :
 counts-long add long start zero = rw (counts-none add start)
 counts-long add long start (suc n) = rw (counts-suc add start n) (long (countsBelow add start n) n ∙ counts-long add long start n)
 
--- ---- how many have counted
+-- ---- whether exactly one has
 
--- Number k counts one more at each x with P k x, as long as every count has room for it.
+-- Number k counts one more at each x with P k x, where the count has room for it; a full count stays full.
 pub record Counting (add : List ℕ → ℕ → List ℕ) (P : ℕ → ℕ → Bool) : Type 0 where
   pub long : (t : List ℕ) (k : ℕ) → length (add t k) ≡ length t
-  pub more : (t : List ℕ) (k x : ℕ) → x < length t → ((y : ℕ) → getD t y 0 < greatest) → getD (add t k) x 0 ≡ getD t x 0 + bit (P k x)
+  pub more : (t : List ℕ) (k x : ℕ) → x < length t → getD t x 0 < greatest → getD (add t k) x 0 ≡ getD t x 0 + bit (P k x)
+  pub full : (t : List ℕ) (k x : ℕ) → getD t x 0 ≡ greatest → getD (add t k) x 0 ≡ greatest
+
+-- An entry says how many have counted, or it is full and that many have at least.
+record Says (entry count : ℕ) : Type 0 where
+  within : entry ≤ greatest
+  exact : entry < greatest → entry ≡ count
+  full : entry ≡ greatest → greatest ≤ count
 
 module _ (add : List ℕ → ℕ → List ℕ) (P : ℕ → ℕ → Bool) (c : Counting add P) where
-  -- The table after the numbers below n, which was empty at first.
-  table : ℕ → ℕ → List ℕ
-  table room n = countsBelow add (replicate room 0) n
-
-  table-long : (room n : ℕ) → length (table room n) ≡ room
-  unfolding table
-  table-long room n = counts-long add (c .long) (replicate room 0) n ∙ length-replicate {A = ℕ} room 0
-
-  -- No count is greater than the number of those that have counted.
-  few : (room n : ℕ) → ((x : ℕ) → x < room → getD (table room n) x 0 ≡ countBelow n (λ k. P k x)) → (y : ℕ) → getD (table room n) y 0 ≤ n
-  few room n is y =
-      ⊎-elim
-      (λ t. rw (is y (ltb-true y room t)) (count-at-most (λ k. P k y) n))
-      (λ f.
-      let past : getD (table room n) y 0 ≡ 0 = List·getD-eq-default (table room n) 0 (rw (table-long room n) (ltb-false y room f)) in
-      rw past (omega arith))
-      (either (ltb y room))
-
   -- An entry of a table that was empty at first.
-  pub counts-is : (room n x : ℕ) → n ≤ greatest → x < room → getD (countsBelow add (replicate room 0) n) x 0 ≡ countBelow n (λ k. P k x)
-  unfolding table
-  counts-is room zero x s l = rw (counts-none add (replicate room 0), count-none (λ k. P k x)) (getD-replicate {A = ℕ} room x 0 0 l)
-  counts-is room (suc n) x s l =
-      let before : (y : ℕ) → y < room → getD (table room n) y 0 ≡ countBelow n (λ k. P k y) = λ y b. counts-is room n y (omega arith) b in
-      let small : (y : ℕ) → getD (table room n) y 0 < greatest = λ y. omega (arith, few room n before y) in
+  says : (room n x : ℕ) → x < room → Says (getD (countsBelow add (replicate room 0) n) x 0) (countBelow n (λ k. P k x))
+  says room zero x l =
+      let none = getD-replicate {A = ℕ} room x 0 0 l in
+      rw (counts-none add (replicate room 0), count-none (λ k. P k x), none) (record { within = omega arith; exact = λ s. refl; full = λ e. absurd (omega (arith, e)) })
+  says room (suc n) x l =
+      let t = countsBelow add (replicate room 0) n in
+      let before = says room n x l in
+      let long = counts-long add (c .long) (replicate room 0) n ∙ length-replicate {A = ℕ} room 0 in
       rw (counts-suc add (replicate room 0) n, count-suc (λ k. P k x) n)
-      (c .more (table room n) n x (rw (table-long room n) l) small ∙ ap (λ (b : ℕ). b + bit (P n x)) (before x l))
+      (⊎-elim
+      (λ s.
+      let small = ltb-true (getD t x 0) greatest s in
+      let is = c .more t n x (rw long l) small in
+      let was = before .exact small in
+      let one = bit-small (P n x) in
+      record {
+        within = omega (arith, is, small, one);
+        exact = λ h. omega (arith, is, was);
+        full = λ e. omega (arith, is, was, e);
+      })
+      (λ f.
+      let at : getD t x 0 ≡ greatest = le-antisymm (before .within) (ltb-false (getD t x 0) greatest f) in
+      let is = c .full t n x at in
+      let many = before .full at in
+      record {
+        within = omega (arith, is);
+        exact = λ h. absurd (omega (arith, is, h));
+        full = λ e. omega (arith, many);
+      })
+      (either (ltb (getD t x 0) greatest)))
+
+  -- It is 1 exactly if one number has counted there, however many there are.
+  pub counts-one : (room n x : ℕ) → x < room → eqb (getD (countsBelow add (replicate room 0) n) x 0) 1 ≡ eqb (countBelow n (λ k. P k x)) 1
+  counts-one room n x l =
+      let s = says room n x l in
+      let entry = getD (countsBelow add (replicate room 0) n) x 0 in
+      let count = countBelow n (λ k. P k x) in
+      ⊎-elim
+      (λ t. let small = ltb-true entry greatest t in ap (λ (y : ℕ). eqb y 1) (s .exact small))
+      (λ f.
+      let at : entry ≡ greatest = le-antisymm (s .within) (ltb-false entry greatest f) in
+      let many = s .full at in
+      ne-eqb entry 1 (λ q. omega (arith, at, q)) ∙ sym (ne-eqb count 1 (λ q. omega (arith, many, q))))
+      (either (ltb entry greatest))
 
 -- ---- whether any has
 

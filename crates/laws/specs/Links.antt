@@ -12,7 +12,7 @@ use lib.ListN.{length, getD, set, replicate, length-set, length-replicate, getD-
 use lib.Seq.{getD-set-same, getD-set-other}
 use lib.Dec.{eqb, leb, ltb}
 use borrow.Author.Tests.{eqb-true, eqb-false, ne-eqb, le-leb, leb-true, ltb-true, ltb-false, lt-ltb, le-ltb}
-use Rattle.laws.specs.Below.{anyBelow, any-none, any-suc, any-fails, any-fails-at, any-is, any-where, firstBelow, first-no, first-is, first-where, bit, and-false, either}
+use Rattle.laws.specs.Below.{anyBelow, any-none, any-suc, any-fails, any-fails-at, any-is, any-where, firstBelow, first-no, first-is, first-where, bit, and-false, or-left-false, or-right-false, either}
 
 -- The greatest number that an entry of such a list holds.
 abbrev pub greatest : ℕ
@@ -336,6 +336,37 @@ module _ (key : ℕ → ℕ) (n : ℕ) (links : Links) (c : Chain key n (links .
       rw (pushed-past links (key n) n past) (left-out past))
       (either (ltb (key n) (length (links .heads))))
 
+-- ---- room for links
+
+-- Lists that are lent for the links of n numbers are too short: there is no key, there is no place for some of the numbers, or a number does not fit an entry.
+unfoldable pub short : List ℕ → List ℕ → ℕ → Bool
+short heads nexts n = eqb (length heads) 0 || ltb (length nexts) n || ltb greatest n
+
+-- They are not.
+pub record Roomy (heads nexts : List ℕ) (n : ℕ) : Type 0 where
+  pub keys : 0 < length heads
+  pub places : n ≤ length nexts
+  pub fits : n ≤ greatest
+
+pub roomy : (heads nexts : List ℕ) (n : ℕ) → short heads nexts n ≡ false → Roomy heads nexts n
+unfolding short
+roomy heads nexts n e =
+    let a = eqb (length heads) 0 in
+    let b = ltb (length nexts) n in
+    let c = ltb greatest n in
+    let ab = or-left-false (a || b) c e in
+    let some : length heads ≢ 0 = eqb-false (length heads) 0 (or-left-false a b ab) in
+    record {
+      keys = omega (arith, some);
+      places = ltb-false (length nexts) n (or-right-false a b ab);
+      fits = ltb-false greatest n (or-right-false (a || b) c e);
+    }
+
+pub not-short : (heads nexts : List ℕ) (n : ℕ) → Roomy heads nexts n → short heads nexts n ≡ false
+unfolding short
+not-short heads nexts n r =
+    rw (ne-eqb (length heads) 0 (λ q. omega (arith, r .keys, q)), le-ltb (length nexts) n (r .places), le-ltb greatest n (r .fits))
+
 -- ---- kept in two lists
 
 -- The links of the numbers below n, with so many keys and room for so many numbers.
@@ -570,3 +601,18 @@ counted-other table x c apart =
     (λ t. rw t (getD-set-other table x c (getD table x 0 + 1) 0 apart))
     (λ f. rw f)
     (either (ltb x (length table) && ltb (getD table x 0) greatest))
+
+-- So it says one more, or not, as long as its own count has room; a full one stays full.
+pub counted-more : (table : List ℕ) (x c : ℕ) → c < length table → getD table c 0 < greatest → getD (countedAt table x) c 0 ≡ getD table c 0 + bit (eqb c x)
+counted-more table x c h s =
+    ⊎-elim
+    (λ t. counted-at table x c h (rw (← eqb-true c x t) s))
+    (λ f. let same : getD table c 0 ≡ getD table c 0 + 0 = omega arith in rw f (counted-other table x c (eqb-false c x f) ∙ same))
+    (either (eqb c x))
+
+pub counted-stays-full : (table : List ℕ) (x c : ℕ) → getD table c 0 ≡ greatest → getD (countedAt table x) c 0 ≡ greatest
+counted-stays-full table x c full =
+    ⊎-elim
+    (λ t. let at : greatest ≤ getD table x 0 = rw (← eqb-true c x t) (omega (arith, full)) in rw (counted-full table x at) full)
+    (λ f. counted-other table x c (eqb-false c x f) ∙ full)
+    (either (eqb c x))

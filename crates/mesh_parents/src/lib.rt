@@ -6,13 +6,10 @@ use stored::Layout;
 ghost use mathlib.Core.Path.{_≡_};
 ghost use mathlib.Core.Bool.{cond, _&&_};
 ghost use lib.Dec.{ltb};
-ghost use lib.ListN.{getD};
+ghost use lib.ListN.{length, getD};
 ghost use Rattle.laws.specs.Links.{linksOf, pushed, anyAlong, firstAlong};
 ghost use Rattle.mesh_tables.specs.Tables.{tables, hasParents};
-ghost use Rattle.mesh_parents.specs.Pairs.{pairKey, keyOf, pairLinks};
-
-// How many keys the links have.
-pub const PAIR_HEADS: usize = 8192;
+ghost use Rattle.mesh_parents.specs.Pairs.{pairKey, keyOf, pairLinks, cleared};
 
 // Whether vertex v is made and has these parents.
 pub fn has_parents<'a>(
@@ -35,25 +32,35 @@ pub fn has_parents<'a>(
     parents.q == ends.higher
 }
 
-// The key of a pair. The factor moves pairs of one sum apart, and is odd, so that modulo a power of two the lower end counts in full.
-fn pair_key(ends: Ends) -> usize
-    ensures { λ r. ⌜ r ≡ pairKey ends ⌝ }
+// The key of a pair, one of so many. The factor moves pairs of one sum apart, and is odd, so that modulo a power of two the lower end counts in full.
+pub fn pair_key(keys: usize, ends: Ends) -> usize
+    ensures { λ r. ⌜ r ≡ pairKey keys ends ⌝ }
 {
-    (ends.lower as usize * 31 + ends.higher as usize) % PAIR_HEADS
+    chains::key(ends.lower as usize * 31 + ends.higher as usize, keys)
 }
 
 // The key of vertex v: past the heads if it is a base vertex.
-fn vertex_key<'a>(h: Header, l: Layout, base: &'a [u8], grown: &'a [u8], v: usize) -> usize
-    ensures { λ r. ⌜ r ≡ keyOf (tables h l (now (base .entry)) (now (grown .entry))) v ⌝ }
+fn vertex_key<'a>(
+    h: Header,
+    l: Layout,
+    base: &'a [u8],
+    grown: &'a [u8],
+    keys: usize,
+    v: usize,
+) -> usize
+    ensures { λ r. ⌜ r ≡ keyOf keys (tables h l (now (base .entry)) (now (grown .entry))) v ⌝ }
 {
     if v < h.base_vertices as usize {
-        return PAIR_HEADS;
+        return keys;
     }
     let parents = stored_entries::parents_in(l, base, grown, v);
-    pair_key(Ends {
-        lower: parents.p,
-        higher: parents.q,
-    })
+    pair_key(
+        keys,
+        Ends {
+            lower: parents.p,
+            higher: parents.q,
+        },
+    )
 }
 
 // Vertex v is put before the others with its key.
@@ -66,15 +73,15 @@ pub fn link_vertex<'a>(
     nexts: &mut [u16],
     v: usize,
 )
-    ensures { λ _. ⌜ now (heads .exit) ≡ pushed (linksOf (now (heads .entry)) (now (nexts .entry))) (keyOf (tables h l (now (base .entry)) (now (grown .entry))) v) v .heads ⌝ }
-    ensures { λ _. ⌜ now (nexts .exit) ≡ pushed (linksOf (now (heads .entry)) (now (nexts .entry))) (keyOf (tables h l (now (base .entry)) (now (grown .entry))) v) v .nexts ⌝ }
+    ensures { λ _. ⌜ now (heads .exit) ≡ pushed (linksOf (now (heads .entry)) (now (nexts .entry))) (keyOf (length (now (heads .entry))) (tables h l (now (base .entry)) (now (grown .entry))) v) v .heads ⌝ }
+    ensures { λ _. ⌜ now (nexts .exit) ≡ pushed (linksOf (now (heads .entry)) (now (nexts .entry))) (keyOf (length (now (heads .entry))) (tables h l (now (base .entry)) (now (grown .entry))) v) v .nexts ⌝ }
 {
-    let key = vertex_key(h, l, base, grown, v);
+    let key = vertex_key(h, l, base, grown, heads.len(), v);
     chains::push(heads, nexts, key, v);
 }
 
 // All vertices, one after the other.
-pub fn link_pairs<'a>(
+fn link_all<'a>(
     h: Header,
     l: Layout,
     base: &'a [u8],
@@ -91,6 +98,22 @@ pub fn link_pairs<'a>(
         link_vertex(h, l, base, grown, heads, nexts, v);
         v += 1;
     }
+}
+
+// All vertices, in links that are empty at first, whatever stood in the lists.
+pub fn link_pairs<'a>(
+    h: Header,
+    l: Layout,
+    base: &'a [u8],
+    grown: &'a [u8],
+    heads: &mut [u16],
+    nexts: &mut [u16],
+)
+    ensures { λ _. ⌜ now (heads .exit) ≡ pairLinks (tables h l (now (base .entry)) (now (grown .entry))) (cleared (now (heads .entry)) (now (nexts .entry))) (h .vertices) .heads ⌝ }
+    ensures { λ _. ⌜ now (nexts .exit) ≡ pairLinks (tables h l (now (base .entry)) (now (grown .entry))) (cleared (now (heads .entry)) (now (nexts .entry))) (h .vertices) .nexts ⌝ }
+{
+    chains::clear(heads);
+    link_all(h, l, base, grown, heads, nexts);
 }
 
 // Whether vertex u is below count and has these parents.
@@ -137,9 +160,9 @@ pub fn any_from<'a>(
 
 // Where the links of a pair's key begin.
 pub fn head_of(heads: &[u16], ends: Ends) -> usize
-    ensures { λ r. ⌜ r ≡ getD (now (heads .entry)) (pairKey ends) 0 ⌝ }
+    ensures { λ r. ⌜ r ≡ getD (now (heads .entry)) (pairKey (length (now (heads .entry))) ends) 0 ⌝ }
 {
-    chains::at(heads, pair_key(ends))
+    chains::at(heads, pair_key(heads.len(), ends))
 }
 
 // Vertex u if it has these parents, and else what was found before.
@@ -170,7 +193,7 @@ pub fn first_with<'a>(
     nexts: &'a [u16],
     ends: Ends,
 ) -> usize
-    ensures { λ r. ⌜ r ≡ firstAlong (now (nexts .entry)) (hasParents (tables h l (now (base .entry)) (now (grown .entry))) ends) (getD (now (heads .entry)) (pairKey ends) 0) (h .vertices) ⌝ }
+    ensures { λ r. ⌜ r ≡ firstAlong (now (nexts .entry)) (hasParents (tables h l (now (base .entry)) (now (grown .entry))) ends) (getD (now (heads .entry)) (pairKey (length (now (heads .entry))) ends) 0) (h .vertices) ⌝ }
 {
     let mut found = h.vertices as usize;
     let mut to = head_of(heads, ends);

@@ -5,27 +5,23 @@ use mathlib.Core.Logic.{_⊎_, inl, inr, ⊎-elim}
 use mathlib.Core.List.{List}
 use Prim.Native.Nat.{ℕ, suc, _+_, _*_, _≤_, _<_}
 use native.Mathlib.Omega.{arith}
-use lib.ListN.{length, getD, length-replicate}
+use lib.ListN.{length, getD}
 use Rattle.laws.specs.Below.{first-at-most}
 use Rattle.laws.specs.Lists.{Bytes}
-use Rattle.laws.specs.Links.{greatest, Chain, linksOf, pushed, chain-pushed, firstAlong}
+use Rattle.laws.specs.Links.{greatest, Chain, linksOf, pushed, pushed-heads-long, chain-pushed, short, Roomy, roomy, firstAlong}
 use Rattle.piece.specs.declared.Ends.{Ends}
 use Rattle.stored.specs.declared.Limits.{Limits}
 use Rattle.stored.specs.declared.Layout.{Layout}
 use Rattle.stored.specs.Layout.{vertexWidth, recordWidth, limits, working, recordIn}
 use Rattle.mesh_tables.specs.Tables.{Tables, allVertices, hasParents, vertexWith, refinementEnds}
-use Rattle.mesh_parents.specs.Pairs.{pairKey, keyOf, pairLinks, pairs-nexts-long, pairs-same, Linked, empty, all-linked, vertex-with-is}
+use Rattle.mesh_parents.specs.Pairs.{pairKey, keyOf, pairLinks, pairs-nexts-long, pairs-same, Linked, cleared, all-linked, vertex-with-is}
 use Rattle.refine_cut.specs.Cut.{cutAt}
 use Rattle.refine_cut.specs.Slices.{Slices, tablesIn, cutWith, cutPut}
 use Rattle.refine_cut.specs.Law.{cut-tables}
 use Rattle.refine_pass.specs.Passes.{exceeds}
-use Rattle.refine_pass.specs.Puts.{refinedPut, work, refinedWithin}
-use Rattle.refine_pass.specs.Steps.{cut-header, refined-within}
+use Rattle.refine_pass.specs.Puts.{refinedPut, work, tooShort, refinedWithin}
+use Rattle.refine_pass.specs.Steps.{cut-header, refined-within, long-enough}
 use Rattle.refine_pass.specs.Law.{Working, within, can-begin, ready, cut-working, cut-vertices-stay}
-
--- How many vertices they have room for: one more than there may be.
-abbrev linkRoom : ℕ
-linkRoom = limits .vertices + 1
 
 -- What the passes work on: the tables, and the links of all their vertices, which have room for one vertex more than there may be.
 pub record AtWork (most : Limits) (l : Layout) (s : Slices) (heads nexts : List ℕ) : Type 0 where
@@ -35,33 +31,41 @@ pub record AtWork (most : Limits) (l : Layout) (s : Slices) (heads nexts : List 
 
 -- The vertices up to `was` are linked, and there may be one more, which has room.
 pub record Linking (m : Tables) (was : ℕ) (heads nexts : List ℕ) : Type 0 where
-  pub chain : Chain (keyOf m) was heads nexts
+  pub chain : Chain (keyOf (length heads) m) was heads nexts
+  pub keys : 0 < length heads
   pub one-more : (allVertices m ≡ was) ⊎ (allVertices m ≡ suc was)
   pub room : was < length nexts
   pub small : was < greatest
 
 module _ (m : Tables) (was : ℕ) (heads nexts : List ℕ) (g : Linking m was heads nexts) where
   -- There is none, or it is put before the others with its key.
-  pub none-fresh : allVertices m ≤ was → Chain (keyOf m) (allVertices m) heads nexts
-  none-fresh e = subst (λ (n : ℕ). Chain (keyOf m) n heads nexts) (⊎-elim (λ a. sym a) (λ b. absurd (omega arith)) (g .one-more)) (g .chain)
+  pub none-fresh : allVertices m ≤ was → Linked m heads nexts
+  none-fresh e =
+      let none : was ≡ allVertices m = ⊎-elim (λ a. sym a) (λ b. absurd (omega arith)) (g .one-more) in
+      record { chain = subst (λ (n : ℕ). Chain (keyOf (length heads) m) n heads nexts) none (g .chain); keys = g .keys }
 
-  pub fresh-linked : was < allVertices m → (heads′ nexts′ : List ℕ) → heads′ ≡ pushed (linksOf heads nexts) (keyOf m was) was .heads → nexts′ ≡ pushed (linksOf heads nexts) (keyOf m was) was .nexts →
-      Chain (keyOf m) (allVertices m) heads′ nexts′
+  pub fresh-linked : was < allVertices m → (heads′ nexts′ : List ℕ) → heads′ ≡ pushed (linksOf heads nexts) (keyOf (length heads) m was) was .heads → nexts′ ≡ pushed (linksOf heads nexts) (keyOf (length heads) m was) was .nexts →
+      Linked m heads′ nexts′
   fresh-linked e heads′ nexts′ h n =
+      let key = keyOf (length heads) m in
       let more : allVertices m ≡ suc was = ⊎-elim (λ a. absurd (omega arith)) (λ b. b) (g .one-more) in
-      subst (λ (k : ℕ). Chain (keyOf m) k heads′ nexts′) (sym more) (rw (h, n) (chain-pushed (keyOf m) was (linksOf heads nexts) (g .chain) (g .room) (g .small)))
+      let long : length heads′ ≡ length heads = ap length h ∙ pushed-heads-long (linksOf heads nexts) (key was) was in
+      record {
+        chain = subst (λ (k : ℕ). Chain (keyOf (length heads′) m) k heads′ nexts′) (sym more) (rw (long, h, n) (chain-pushed key was (linksOf heads nexts) (g .chain) (g .room) (g .small)));
+        keys = rw long (g .keys);
+      }
 
 module _ (l : Layout) (s : Slices) (heads nexts : List ℕ) (k : Linked (tablesIn l s) heads nexts) where
   -- The vertex found along the links is the one with these parents.
-  found-is : (ends : Ends) (w : ℕ) → w ≡ firstAlong nexts (hasParents (tablesIn l s) ends) (getD heads (pairKey ends) 0) (s .header .vertices) → w ≡ vertexWith (tablesIn l s) ends
-  found-is ends w is = is ∙ vertex-with-is (tablesIn l s) heads nexts (k .chain) (k .long) ends
+  found-is : (ends : Ends) (w : ℕ) → w ≡ firstAlong nexts (hasParents (tablesIn l s) ends) (getD heads (pairKey (length heads) ends) 0) (s .header .vertices) → w ≡ vertexWith (tablesIn l s) ends
+  found-is ends w is = is ∙ vertex-with-is (tablesIn l s) heads nexts k ends
 
-  pub found-within : (ends : Ends) (w : ℕ) → w ≡ firstAlong nexts (hasParents (tablesIn l s) ends) (getD heads (pairKey ends) 0) (s .header .vertices) → w ≤ s .header .vertices
+  pub found-within : (ends : Ends) (w : ℕ) → w ≡ firstAlong nexts (hasParents (tablesIn l s) ends) (getD heads (pairKey (length heads) ends) 0) (s .header .vertices) → w ≤ s .header .vertices
   unfolding vertexWith
   found-within ends w is = omega (arith, found-is ends w is, first-at-most (hasParents (tablesIn l s) ends) (s .header .vertices))
 
   -- So a cut there is the cut.
-  pub cut-found : (n : ℕ) (ends : Ends) → ends ≡ refinementEnds (recordIn l (s .base) (s .grown) n .piece) → (w : ℕ) → w ≡ firstAlong nexts (hasParents (tablesIn l s) ends) (getD heads (pairKey ends) 0) (s .header .vertices) →
+  pub cut-found : (n : ℕ) (ends : Ends) → ends ≡ refinementEnds (recordIn l (s .base) (s .grown) n .piece) → (w : ℕ) → w ≡ firstAlong nexts (hasParents (tablesIn l s) ends) (getD heads (pairKey (length heads) ends) 0) (s .header .vertices) →
       (t : Slices) → t ≡ cutWith l s n w → t ≡ cutPut l s n
   unfolding cutPut
   cut-found n ends these w is t cut = cut ∙ ap (cutWith l s n) (found-is ends w is ∙ ap (vertexWith (tablesIn l s)) these)
@@ -78,53 +82,57 @@ module _ (most : Limits) (l : Layout) (s : Slices) (heads nexts : List ℕ) (k :
       let (v, r) = within most (s .header) few in
       let same : tablesIn l t ≡ cutAt (tablesIn l s) n = ap (tablesIn l) is ∙ cut-tables l s n (ready most l s n (k .working) few there) in
       record {
-        chain = pairs-same (tablesIn l s) (tablesIn l t) (s .header .vertices) heads nexts (sym ((λ i. is i .header .«base_vertices») ∙ cut-header l s n (λ h. h .«base_vertices» ≡ s .header .«base_vertices») refl refl refl))
+        chain = pairs-same (length heads) (tablesIn l s) (tablesIn l t) (s .header .vertices) heads nexts (sym ((λ i. is i .header .«base_vertices») ∙ cut-header l s n (λ h. h .«base_vertices» ≡ s .header .«base_vertices») refl refl refl))
             (λ u b. sym ((λ i. same i .vertexAt u) ∙ cut-vertices-stay (tablesIn l s) n u b)) (k .linked .chain);
+        keys = k .linked .keys;
         one-more = subst (λ (x : Slices). (x .header .vertices ≡ s .header .vertices) ⊎ (x .header .vertices ≡ suc (s .header .vertices))) (sym is) one-more;
         room = omega (arith, k .room);
         small = omega (arith, k .working .few-vertices);
       }
 
   -- And with the vertex that it appended, if it did, those of all vertices.
-  pub cut-linked : (heads′ nexts′ : List ℕ) → Chain (keyOf (tablesIn l t)) (t .header .vertices) heads′ nexts′ → length heads′ ≡ length heads → length nexts′ ≡ length nexts → AtWork most l t heads′ nexts′
-  cut-linked heads′ nexts′ c h m =
+  pub cut-linked : (heads′ nexts′ : List ℕ) → Linked (tablesIn l t) heads′ nexts′ → length nexts′ ≡ length nexts → AtWork most l t heads′ nexts′
+  cut-linked heads′ nexts′ linked long =
       record {
         working = subst (Working most l) (sym is) (cut-working most l s n (k .working) few there);
-        linked = record { chain = c; long = h ∙ k .linked .long };
+        linked = linked;
         room = omega (arith, k .room);
       }
 
 -- ---- all passes, for every input
 
--- With version 1's limits, in slices that have the tables to work on.
+-- With version 1's limits, in slices that have the tables to work on, and with lists that are long enough.
 module _ (most : Limits) (l : Layout) (few : most ≡ limits) (laid : l ≡ working (most .vertices + 1) (most .records + 2)) (s : Slices) (small : exceeds most (s .header) ≡ false)
-    (long : vertexWidth * (limits .vertices + 1) ≤ length (s .base)) (deep : recordWidth * (limits .records + 2) ≤ length (s .grown)) where
+    (long : vertexWidth * (limits .vertices + 1) ≤ length (s .base)) (deep : recordWidth * (limits .records + 2) ≤ length (s .grown))
+    (heads nexts table : List ℕ) (linkable : short heads nexts (most .vertices + 1) ≡ false) (places : most .records ≤ length table) where
   to-work : l ≡ work
   to-work = laid ∙ (λ i. working (few i .vertices + 1) (few i .records + 2))
 
-  -- The records all have a place in a table of the possible ones, also those to come.
-  pub records-few : (s .header .records ≤ limits .records) × (most .records ≤ limits .records)
-  records-few = let (v, r) = within most (s .header) small in let same = ap (λ (x : Limits). x .records) few in (omega arith, omega arith)
+  room : Roomy heads nexts (most .vertices + 1)
+  room = roomy heads nexts (most .vertices + 1) linkable
 
-  -- Empty links, filled with all vertices.
-  pub passes-begin : Bytes (s .base) × Bytes (s .grown) → (heads nexts : List ℕ) → heads ≡ pairLinks (tablesIn l s) (empty linkRoom) (s .header .vertices) .heads → nexts ≡ pairLinks (tablesIn l s) (empty linkRoom) (s .header .vertices) .nexts →
-      AtWork most l s heads nexts
-  passes-begin bytes heads nexts h n =
+  -- Empty links, filled with all vertices. The records all have a place in the table, also those to come.
+  pub passes-begin : Bytes (s .base) × Bytes (s .grown) → (heads′ nexts′ : List ℕ) →
+      heads′ ≡ pairLinks (tablesIn l s) (cleared heads nexts) (s .header .vertices) .heads → nexts′ ≡ pairLinks (tablesIn l s) (cleared heads nexts) (s .header .vertices) .nexts →
+      AtWork most l s heads′ nexts′ × ((s .header .records ≤ length table) × (most .records ≤ length table))
+  passes-begin bytes heads′ nexts′ h n =
       let (v, r) = within most (s .header) small in
-      let same = ap (λ (x : Limits). x .vertices) few in
-      let there = length-replicate {A = ℕ} linkRoom 0 in
-      let filled = pairs-nexts-long (tablesIn l s) (empty linkRoom) (s .header .vertices) in
-      record {
-        working = subst₂ Here (sym few) (sym to-work) (can-begin s long deep bytes);
-        linked = all-linked (tablesIn l s) linkRoom (omega arith) (omega arith) heads nexts h n;
-        room = omega (arith, ap length n);
-      }
+      let filled = pairs-nexts-long (tablesIn l s) (cleared heads nexts) (s .header .vertices) in
+      let all : Roomy heads nexts (s .header .vertices) = record { keys = room .keys; places = omega (arith, room .places); fits = omega (arith, room .fits) } in (
+        record {
+          working = subst₂ Here (sym few) (sym to-work) (can-begin s long deep bytes);
+          linked = all-linked (tablesIn l s) heads nexts all heads′ nexts′ h n;
+          room = omega (arith, ap length n, room .places);
+        },
+        (omega arith, places),
+      )
     where
       Here : Limits → Layout → Type 0
       Here x y = Working x y s
 
-  pub passes-end : (chosen : ℕ → Bool) (t : Slices) → t ≡ refinedPut most l chosen s → t ≡ refinedWithin chosen s
+  pub passes-end : (chosen : ℕ → Bool) (t : Slices) → t ≡ refinedPut most l chosen s → t ≡ refinedWithin (tooShort heads nexts table) chosen s
   passes-end chosen t is =
+      let enough = long-enough heads nexts table (subst (λ (x : Limits). Roomy heads nexts (x .vertices + 1)) few room) (subst (λ (x : Limits). x .records ≤ length table) few places) in
       is
       ∙ (λ i. refinedPut (few i) (to-work i) chosen s)
-      ∙ sym (refined-within chosen s (sym (ap (λ (x : Limits). exceeds x (s .header)) few) ∙ small) long deep)
+      ∙ sym (refined-within (tooShort heads nexts table) chosen s enough (sym (ap (λ (x : Limits). exceeds x (s .header)) few) ∙ small) long deep)

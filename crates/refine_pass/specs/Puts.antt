@@ -1,8 +1,10 @@
 -- The passes in two slices, byte for byte.
-use mathlib.Core.Bool.{Bool, not, cond, _&&_}
+use mathlib.Core.Bool.{Bool, not, cond, _&&_, _||_}
+use mathlib.Core.List.{List}
 use Prim.Native.Nat.{ℕ, zero, suc, _+_, _*_}
 use lib.ListN.{length}
-use lib.Dec.{leb}
+use lib.Dec.{leb, ltb}
+use Rattle.laws.specs.Links.{short}
 use Rattle.stored.specs.declared.Limits.{Limits}
 use Rattle.stored.specs.declared.Layout.{Layout}
 use Rattle.stored.specs.Layout.{vertexWidth, recordWidth, limits, working}
@@ -46,6 +48,10 @@ canWork s =
     not (exceeds limits (s .header))
     && (leb (vertexWidth * (limits .vertices + 1)) (length (s .base)) && leb (recordWidth * (limits .records + 2)) (length (s .grown)))
 
--- All passes, where they can be made; else nothing is cut.
-unfoldable pub refinedWithin : (ℕ → Bool) → Slices → Slices
-refinedWithin chosen s = let all = refinedPut limits work chosen s in cond (canWork s) all s
+-- The lists that are lent are too short: for the links of one vertex more than there may be, or for a place for each possible record.
+unfoldable pub tooShort : List ℕ → List ℕ → List ℕ → Bool
+tooShort heads nexts table = short heads nexts (limits .vertices + 1) || ltb (length table) (limits .records)
+
+-- All passes, where they can be made and what is lent does not lack room; else nothing is cut.
+unfoldable pub refinedWithin : Bool → (ℕ → Bool) → Slices → Slices
+refinedWithin lacking chosen s = let all = refinedPut limits work chosen s in cond (canWork s && not lacking) all s

@@ -1,14 +1,16 @@
 -- The passes in two slices, turn by turn: from what each call leaves to what the definition says.
 use mathlib.Core.Path.{_≡_, refl, sym, ap, ap₂, _∙_}
 use mathlib.Core.Bool.{Bool, true, false, not, cond, _&&_}
+use mathlib.Core.List.{List}
 use Prim.Native.Nat.{ℕ, zero, suc, _+_, _-_, _*_, _≤_, _<_}
 use native.Mathlib.Nat.{le-refl}
 use native.Mathlib.Numerals.{add-one}
 use native.Mathlib.Omega.{arith}
 use lib.ListN.{length}
 use lib.Dec.{eqb, leb}
-use borrow.Author.Tests.{le-leb, lt-leb}
-use Rattle.laws.specs.Below.{and-false}
+use borrow.Author.Tests.{le-leb, lt-leb, le-ltb, lt-ltb}
+use Rattle.laws.specs.Below.{and-false, or-true}
+use Rattle.laws.specs.Links.{short, Roomy, not-short}
 use Rattle.piece.specs.declared.Ends.{Ends}
 use Rattle.stored.specs.declared.Limits.{Limits}
 use Rattle.stored.specs.declared.Layout.{Layout}
@@ -18,7 +20,7 @@ use Rattle.mesh_tables.specs.Tables.{vertexWith, refinementEnds, leafHangs, han
 use Rattle.refine_cut.specs.Cut.{midpointOf, oneVertexMore, twoRecordsMore}
 use Rattle.refine_cut.specs.Slices.{Slices, tablesIn, vertexPut, headed, midpointPut, childrenPut, hasRoom, cutWith, cutPut}
 use Rattle.refine_pass.specs.Passes.{exceeds}
-use Rattle.refine_pass.specs.Puts.{turnPut, turnsPut, passPut, closingPut, refinedPut, work, canWork, refinedWithin}
+use Rattle.refine_pass.specs.Puts.{turnPut, turnsPut, passPut, closingPut, refinedPut, work, canWork, tooShort, refinedWithin}
 
 -- ---- the header after a cut
 
@@ -47,9 +49,9 @@ module _ (l : Layout) (s : Slices) (n : ℕ) where
 module _ (most : Limits) (l : Layout) where
   -- ---- the turn of a record that is chosen
 
-  pub turn-beyond : (n : ℕ) (s : Slices) → exceeds most (s .header) ≡ true → s ≡ turnPut most l true n s
+  pub turn-exceeds : (n : ℕ) (s : Slices) → exceeds most (s .header) ≡ true → s ≡ turnPut most l true n s
   unfolding turnPut
-  turn-beyond n s e = rw e
+  turn-exceeds n s e = rw e
 
   pub turn-cut : (n : ℕ) (s t : Slices) → exceeds most (s .header) ≡ false → t ≡ cutPut l s n → t ≡ turnPut most l true n s
   unfolding turnPut
@@ -113,8 +115,8 @@ module _ (most : Limits) (l : Layout) where
   closing-rests zero s e = refl
   closing-rests (suc passes) s e = rw e
 
-  pub closing-beyond : (passes : ℕ) (s : Slices) → exceeds most (s .header) ≡ true → s ≡ closingPut most l passes s
-  closing-beyond passes s e = closing-rests passes s (rw e (and-false (hangingEdge (tablesIn l s))))
+  pub closing-exceeds : (passes : ℕ) (s : Slices) → exceeds most (s .header) ≡ true → s ≡ closingPut most l passes s
+  closing-exceeds passes s e = closing-rests passes s (rw e (and-false (hangingEdge (tablesIn l s))))
 
   pub closing-none : (passes : ℕ) (s : Slices) → hangingEdge (tablesIn l s) ≡ false → s ≡ closingPut most l passes s
   closing-none passes s e = closing-rests passes s (rw e)
@@ -140,27 +142,51 @@ module _ (most : Limits) (l : Layout) where
 
 -- ---- for every input
 
-module _ (chosen : ℕ → Bool) (s : Slices) where
-  pub beyond-stays : exceeds limits (s .header) ≡ true → s ≡ refinedWithin chosen s
-  unfolding refinedWithin canWork
-  beyond-stays e = rw e
+module _ (lacking : Bool) (chosen : ℕ → Bool) (s : Slices) where
+  cannot-work : canWork s ≡ false → s ≡ refinedWithin lacking chosen s
+  unfolding refinedWithin
+  cannot-work e = rw e
 
-  pub short-base-stays : length (s .base) < vertexWidth * (limits .vertices + 1) → s ≡ refinedWithin chosen s
-  unfolding refinedWithin canWork
-  short-base-stays e = rw (lt-leb (vertexWidth * (limits .vertices + 1)) (length (s .base)) e, and-false (not (exceeds limits (s .header))))
+  pub exceeds-stays : exceeds limits (s .header) ≡ true → s ≡ refinedWithin lacking chosen s
+  unfolding canWork
+  exceeds-stays e = cannot-work (rw e)
 
-  pub short-growth-stays : length (s .grown) < recordWidth * (limits .records + 2) → s ≡ refinedWithin chosen s
-  unfolding refinedWithin canWork
+  pub short-base-stays : length (s .base) < vertexWidth * (limits .vertices + 1) → s ≡ refinedWithin lacking chosen s
+  unfolding canWork
+  short-base-stays e = cannot-work (rw (lt-leb (vertexWidth * (limits .vertices + 1)) (length (s .base)) e, and-false (not (exceeds limits (s .header)))))
+
+  pub short-growth-stays : length (s .grown) < recordWidth * (limits .records + 2) → s ≡ refinedWithin lacking chosen s
+  unfolding canWork
   short-growth-stays e =
-      rw (
+      cannot-work
+      (rw (
         lt-leb (recordWidth * (limits .records + 2)) (length (s .grown)) e,
         and-false (leb (vertexWidth * (limits .vertices + 1)) (length (s .base))),
         and-false (not (exceeds limits (s .header))),
-      )
+      ))
+
+  pub lacking-stays : lacking ≡ true → s ≡ refinedWithin lacking chosen s
+  unfolding refinedWithin
+  lacking-stays e = rw (e, and-false (canWork s))
 
   -- Where the passes can be made, they are.
-  pub refined-within : exceeds limits (s .header) ≡ false → vertexWidth * (limits .vertices + 1) ≤ length (s .base) → recordWidth * (limits .records + 2) ≤ length (s .grown) →
-      refinedWithin chosen s ≡ refinedPut limits work chosen s
+  pub refined-within : lacking ≡ false → exceeds limits (s .header) ≡ false → vertexWidth * (limits .vertices + 1) ≤ length (s .base) → recordWidth * (limits .records + 2) ≤ length (s .grown) →
+      refinedWithin lacking chosen s ≡ refinedPut limits work chosen s
   unfolding refinedWithin canWork
-  refined-within few long deep =
-      rw (few, le-leb (vertexWidth * (limits .vertices + 1)) (length (s .base)) long, le-leb (recordWidth * (limits .records + 2)) (length (s .grown)) deep)
+  refined-within enough few long deep =
+      rw (enough, few, le-leb (vertexWidth * (limits .vertices + 1)) (length (s .base)) long, le-leb (recordWidth * (limits .records + 2)) (length (s .grown)) deep)
+
+-- What is lent is too short for the links, or for the records.
+module _ (heads nexts table : List ℕ) where
+  pub short-links : short heads nexts (limits .vertices + 1) ≡ true → tooShort heads nexts table ≡ true
+  unfolding tooShort
+  short-links e = rw e
+
+  pub short-table : length table < limits .records → tooShort heads nexts table ≡ true
+  unfolding tooShort
+  short-table l = rw (lt-ltb (length table) (limits .records) l, or-true (short heads nexts (limits .vertices + 1)))
+
+  -- Or for neither.
+  pub long-enough : Roomy heads nexts (limits .vertices + 1) → limits .records ≤ length table → tooShort heads nexts table ≡ false
+  unfolding tooShort
+  long-enough room places = rw (not-short heads nexts (limits .vertices + 1) room, le-ltb (length table) (limits .records) places)

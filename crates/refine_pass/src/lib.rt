@@ -9,20 +9,19 @@ ghost use mathlib.Core.Path.{_≡_};
 ghost use mathlib.Core.Bool.{true};
 ghost use Prim.Native.Nat.{_≤_, _<_};
 ghost use lib.ListN.{length};
-ghost use Rattle.laws.specs.Links.{Chain, countedAt};
-ghost use Rattle.laws.specs.Counts.{countsBelow, marked};
-ghost use Rattle.stored.specs.Layout.{limits, namedIn};
+ghost use Rattle.laws.specs.Counts.{marked};
+ghost use Rattle.stored.specs.Layout.{namedIn};
 ghost use Rattle.mesh_tables.specs.Tables.{tables, leafHangs};
-ghost use Rattle.mesh_parents.specs.Pairs.{keyOf, Linked};
+ghost use Rattle.mesh_parents.specs.Pairs.{Linked};
 ghost use Rattle.refine_selection.specs.Selected.{isNamed};
 ghost use Rattle.refine_cut.specs.Slices.{slices, cutPut};
 ghost use Rattle.refine_pass.specs.Passes.{exceeds};
-ghost use Rattle.refine_pass.specs.Puts.{turnPut, passPut, closingPut, refinedPut, refinedWithin};
-ghost use Rattle.refine_pass.specs.Chosen.{Chosen};
+ghost use Rattle.refine_pass.specs.Puts.{turnPut, passPut, closingPut, refinedPut, tooShort, refinedWithin};
+ghost use Rattle.refine_pass.specs.Chosen.{tableOf, Chosen};
 ghost use Rattle.refine_pass.specs.Linked.{Linking, AtWork};
 
 // Whether there are more vertices or more records than there may be.
-pub fn is_beyond(most: Limits, h: Header) -> bool
+pub fn exceeds(most: Limits, h: Header) -> bool
     ensures { λ r. ⌜ r ≡ exceeds most h ⌝ }
 {
     if most.vertices < h.vertices {
@@ -60,7 +59,7 @@ fn link_fresh<'a>(
     nexts: &mut [u16],
 )
     requires { ⌜ Linking (tables h l (now base) (now grown)) was (now heads) (now nexts) ⌝ }
-    ensures { λ _. ⌜ Chain (keyOf (tables h l (now (base .entry)) (now (grown .entry)))) (h .vertices) (now (heads .exit)) (now (nexts .exit)) ⌝ }
+    ensures { λ _. ⌜ Linked (tables h l (now (base .entry)) (now (grown .entry))) (now (heads .exit)) (now (nexts .exit)) ⌝ }
 {
     if was < h.vertices {
         mesh_parents::link_vertex(h, l, base, grown, heads, nexts, was as usize);
@@ -83,7 +82,7 @@ fn turn(
     ensures { λ r. ⌜ slices r (now (base .exit)) (now (grown .exit)) ≡ turnPut most l true n (slices h (now (base .entry)) (now (grown .entry))) ⌝ }
     ensures { λ r. ⌜ AtWork most l (slices r (now (base .exit)) (now (grown .exit))) (now (heads .exit)) (now (nexts .exit)) ⌝ }
 {
-    if is_beyond(most, h) {
+    if exceeds(most, h) {
         return h;
     }
     let with = cut(h, l, base, grown, heads, nexts, n);
@@ -91,10 +90,11 @@ fn turn(
     with
 }
 
-// One more in the table at each number that the selection names.
+// One more at each number that the selection names, in a table that is empty at first, whatever stood in it.
 fn choose_named(chosen: &mut [u16], selection: &[u8], count: usize)
-    ensures { λ _. ⌜ now (chosen .exit) ≡ countsBelow (λ t i. countedAt t (namedIn (now (selection .entry)) i)) (now (chosen .entry)) count ⌝ }
+    ensures { λ _. ⌜ now (chosen .exit) ≡ tableOf (length (now (chosen .entry))) (now (selection .entry)) count ⌝ }
 {
+    chains::clear(chosen);
     let mut i: usize = 0;
     while i < count {
         chains::count(chosen, stored_selections::named_in(selection, i) as usize);
@@ -175,7 +175,7 @@ fn close(
     let mut with = h;
     let mut left = most.records;
     while 0 < left {
-        if is_beyond(most, with) {
+        if exceeds(most, with) {
             return with;
         }
         if !choose_hanging(with, l, base, grown, heads, nexts, chosen) {
@@ -196,32 +196,36 @@ fn passes(
     grown: &mut [u8],
     heads: &mut [u16],
     nexts: &mut [u16],
+    chosen: &mut [u16],
     selection: &[u8],
     count: usize,
 ) -> Header
     requires { ⌜ AtWork most l (slices h (now base) (now grown)) (now heads) (now nexts) ⌝ }
-    requires { ⌜ h .records ≤ limits .records ⌝ }
-    requires { ⌜ most .records ≤ limits .records ⌝ }
+    requires { ⌜ h .records ≤ length (now chosen) ⌝ }
+    requires { ⌜ most .records ≤ length (now chosen) ⌝ }
     ensures { λ r. ⌜ slices r (now (base .exit)) (now (grown .exit)) ≡ refinedPut most l (isNamed count (namedIn (now (selection .entry)))) (slices h (now (base .entry)) (now (grown .entry))) ⌝ }
 {
-    let mut chosen = [0u16; stored::RECORDS];
-    choose_named(&mut chosen, selection, count);
-    let with = pass(most, h, l, base, grown, heads, nexts, &chosen);
-    close(most, with, l, base, grown, heads, nexts, &mut chosen)
+    choose_named(chosen, selection, count);
+    let with = pass(most, h, l, base, grown, heads, nexts, chosen);
+    close(most, with, l, base, grown, heads, nexts, chosen)
 }
 
-// All passes on tables to work on; where the slices don't have them, or there are more vertices or records than there may be, nothing is cut.
+// All passes on tables to work on, with lists that are lent for the links and for the chosen records, whatever stands in them. Where the slices don't have
+// the tables, the lists are too short, or there are more vertices or records than there may be, nothing is cut.
 pub fn refined(
     h: Header,
     base: &mut [u8],
     grown: &mut [u8],
+    heads: &mut [u16],
+    nexts: &mut [u16],
+    chosen: &mut [u16],
     selection: &[u8],
     count: usize,
 ) -> Header
-    ensures { λ r. ⌜ slices r (now (base .exit)) (now (grown .exit)) ≡ refinedWithin (isNamed count (namedIn (now (selection .entry)))) (slices h (now (base .entry)) (now (grown .entry))) ⌝ }
+    ensures { λ r. ⌜ slices r (now (base .exit)) (now (grown .exit)) ≡ refinedWithin (tooShort (now (heads .entry)) (now (nexts .entry)) (now (chosen .entry))) (isNamed count (namedIn (now (selection .entry)))) (slices h (now (base .entry)) (now (grown .entry))) ⌝ }
 {
     let most = stored::limits_of_version_1();
-    if is_beyond(most, h) {
+    if exceeds(most, h) {
         return h;
     }
     if base.len() < stored::WORKING_VERTEX_BYTES {
@@ -230,18 +234,23 @@ pub fn refined(
     if grown.len() < stored::WORKING_RECORD_BYTES {
         return h;
     }
+    if chains::is_short(heads, nexts, most.vertices as usize + 1) {
+        return h;
+    }
+    if chosen.len() < most.records as usize {
+        return h;
+    }
     let l = stored::working_layout(most.vertices + 1, most.records + 2);
-    let mut heads = [0u16; mesh_parents::PAIR_HEADS];
-    let mut nexts = [0u16; stored::WORKING_VERTICES];
-    mesh_parents::link_pairs(h, l, base, grown, &mut heads, &mut nexts);
+    mesh_parents::link_pairs(h, l, base, grown, heads, nexts);
     passes(
         most,
         h,
         l,
         base,
         grown,
-        &mut heads,
-        &mut nexts,
+        heads,
+        nexts,
+        chosen,
         selection,
         count,
     )

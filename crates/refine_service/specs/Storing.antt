@@ -119,7 +119,7 @@ module _ (mesh selection out : List ℕ) (h : Header) (c : Copied h mesh out) wh
       })
       ∙ ap (λ (g : Header). tables g (layoutOf g) mesh mesh) (c .header)
 
-  module _ (bytes : Bytes mesh) (with : Header) (vertices records : List ℕ) (is : slices with vertices records ≡ refinedWithin chosen (slices h copiedVertices copiedRecords))
+  module _ (bytes : Bytes mesh) (with : Header) (vertices records : List ℕ) (is : slices with vertices records ≡ refinedWithin false chosen (slices h copiedVertices copiedRecords))
       (long : length vertices ≡ vertexWidth * (limits .vertices + 1)) (deep : length records ≡ recordWidth * (limits .records + 2)) where
     vertex-bytes : Bytes (vertexPart h mesh)
     unfolding vertexPart
@@ -142,7 +142,7 @@ module _ (mesh selection out : List ℕ) (h : Header) (c : Copied h mesh out) wh
 
     -- Within the limits all passes are made.
     made : slices with vertices records ≡ refinedPut limits work chosen (slices h copiedVertices copiedRecords)
-    made = is ∙ refined-within chosen (slices h copiedVertices copiedRecords) (not-exceeds limits h (c .vertices) (c .records)) vertex-room record-room
+    made = is ∙ refined-within false chosen (slices h copiedVertices copiedRecords) refl (not-exceeds limits h (c .vertices) (c .records)) vertex-room record-room
 
     ended : Working limits work (slices with vertices records)
     ended = subst (Working limits work) (sym made) (refined-working limits work chosen (slices h copiedVertices copiedRecords) begun)

@@ -2,10 +2,14 @@
 use stored::Header;
 use stored::Layout;
 ghost use mathlib.Core.Path.{_≡_};
+ghost use mathlib.Core.Bool.{false};
 ghost use lib.ListN.{length};
 ghost use Rattle.stored.specs.Layout.{namedIn};
 ghost use Rattle.mesh_tables.specs.Tables.{tables};
 ghost use Rattle.check_refusals.specs.Check.{checkNumber};
+ghost use Rattle.refine_selection.specs.Selected.{isNamed};
+ghost use Rattle.refine_cut.specs.Slices.{slices};
+ghost use Rattle.refine_pass.specs.Puts.{refinedWithin};
 ghost use Rattle.refine_service.specs.Refine.{RefineOutcomeIs};
 ghost use Rattle.refine_service.specs.Order.{selectionNumber, namedNumber};
 ghost use Rattle.refine_service.specs.Storing.{Assembled, Copied, storedNumber, storedBytes, laterNumber, laterBytes};
@@ -59,7 +63,7 @@ fn finish<'a>(h: Header, vertices: &'a [u8], records: &'a [u8], out: &mut [u8]) 
     ensures { λ r. ⌜ r ≡ storedNumber h (length (now (out .entry))) ⌝ }
     ensures { λ _. ⌜ now (out .exit) ≡ storedBytes h (now (vertices .entry)) (now (records .entry)) (length (now (out .entry))) ⌝ }
 {
-    if refine_pass::is_beyond(stored::limits_of_version_1(), h) {
+    if refine_pass::exceeds(stored::limits_of_version_1(), h) {
         return 19;
     }
     if out.len() < stored_headers::mesh_length(h.vertices, h.records) {
@@ -67,6 +71,31 @@ fn finish<'a>(h: Header, vertices: &'a [u8], records: &'a [u8], out: &mut [u8]) 
     }
     stored_written::put_mesh(out, stored_headers::next_round(h), vertices, records);
     0
+}
+
+// The passes' working memory is made here, and lent to them.
+fn refined(
+    h: Header,
+    vertices: &mut [u8],
+    records: &mut [u8],
+    selection: &[u8],
+    count: usize,
+) -> Header
+    ensures { λ r. ⌜ slices r (now (vertices .exit)) (now (records .exit)) ≡ refinedWithin false (isNamed count (namedIn (now (selection .entry)))) (slices h (now (vertices .entry)) (now (records .entry))) ⌝ }
+{
+    let mut heads = [0u16; chains::KEYS];
+    let mut nexts = [0u16; stored::WORKING_VERTICES];
+    let mut chosen = [0u16; stored::RECORDS];
+    refine_pass::refined(
+        h,
+        vertices,
+        records,
+        &mut heads,
+        &mut nexts,
+        &mut chosen,
+        selection,
+        count,
+    )
 }
 
 // The passes are made aside, since there may be no room for what they leave.
@@ -79,7 +108,7 @@ fn store(mesh: &[u8], h: Header, selection: &[u8], out: &mut [u8]) -> u32
     let mut records = [0u8; stored::WORKING_RECORD_BYTES];
     stored_written::copy_tables(mesh, h, &mut vertices, &mut records);
     let s = stored_selections::selection_of(selection);
-    let with = refine_pass::refined(h, &mut vertices, &mut records, selection, s.count as usize);
+    let with = refined(h, &mut vertices, &mut records, selection, s.count as usize);
     finish(with, &vertices, &records, out)
 }
 

@@ -14,10 +14,10 @@ use Rattle.check_faces.proofs.bad_linked.Statement.{statement}
 use Rattle.check_faces.proofs.bad_linked.Tie as tie
 
 abbrev Inv-loop : tie.InvT-loop
-Inv-loop l base grown heads nexts q keys i₀ i = (i ≤ 4) × (anyBelow i (λ x. badAlong (recordIn l base grown) nexts (getD heads (getD keys x 0) 0) q x) ≡ false)
+Inv-loop l base grown heads nexts q own i₀ i = (i ≤ 4) × (anyBelow i (λ x. badAlong (recordIn l base grown) nexts (getD heads (getD own x 0) 0) q x) ≡ false)
 
 abbrev μ-loop : tie.MeasureT-loop
-μ-loop l base grown heads nexts q keys i₀ i = 4 - i
+μ-loop l base grown heads nexts q own i₀ i = 4 - i
 
 -- Face x is bad with one along the links of its key.
 abbrev bad : tie.Start Inv-loop μ-loop → ℕ → Bool

@@ -13,7 +13,9 @@ returns c = rw (lt-ltb _ _ (c .before .before .before .if1 .taken), ← c .befor
 
 returns-2 : tie.Need-returns-2
 unfolding badVertex
-returns-2 c = rw (lt-ltb _ _ (c .before .before .before .before .before .if1 .taken), ← c .before .before .before .before .vertex-in .ensures, ← c .before .before .before .bad-base-vertex .ensures, c .before .before .if2 .left) (rw (c .place-along .ensures, c .before .before .before .before .vertex-in .ensures) (place-twice _ _ _ _ (c .before .before .before .before .before .before .before .before .before .before .before .before .before .pre .0) (c .before .before .before .before .before .if1 .taken)))
+returns-2 c =
+    rw (lt-ltb _ _ (c .before .before .before .before .before .if1 .taken), ← c .before .before .before .before .vertex-in .ensures, ← c .before .before .before .bad-base-vertex .ensures, c .before .before .if2 .left)
+    (rw (c .place-along .ensures, c .before .before .before .before .vertex-in .ensures) (place-twice _ _ _ _ (c .before .before .before .before .before .before .before .before .before .before .before .pre) (c .before .before .before .before .before .if1 .taken)))
 
 returns-3 : tie.Need-returns-3
 unfolding badVertex

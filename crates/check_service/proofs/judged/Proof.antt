@@ -1,18 +1,17 @@
--- `check_service::judged`: the base's refusal, or what the cuts have.
+-- `check_service::judged` makes what it lends as long as the rules need it.
 -- Assumes nothing.
 use borrow.Author.Needs.{needs}
-use borrow.Author.Tests.{ne-eqb, eq-eqb}
-use Rattle.check_service.specs.Order.{judgedReport}
+use Rattle.check_refusals.specs.Lent.{lent-to-base, lent-to-cuts}
 use Rattle.check_service.proofs.judged.Statement.{statement}
 use Rattle.check_service.proofs.judged.Tie as tie
 
-returns : tie.Need-returns
-unfolding judgedReport
-returns c = rw (← c .before .before .judged-base .ensures, ne-eqb (c .before .before .judged-base .result) 0 (c .before .if1 .taken)) (c .refused .ensures)
+judged-with-requires : tie.Need-judged-with-requires
+judged-with-requires c κs = (lent-to-base _ (c .before .before .before .before .before .before .before .pre), lent-to-cuts _ (c .before .before .before .before .before .before .before .pre))
 
-returns-2 : tie.Need-returns-2
-unfolding judgedReport
-returns-2 c = rw (← c .before .before .judged-base .ensures, eq-eqb (c .before .before .judged-base .result) 0 (c .before .if1 .left)) (c .judged-cuts .ensures)
+returns : tie.Need-returns
+returns c = c .before .before .before .before .before .judged-with .ensures
 
 pub judged-spec : {M : Type 1} → statement M
-judged-spec = tie.close (tie.spec (λ c κs. search needs) (λ c κs. search needs) returns (λ c κs. search needs) returns-2)
+judged-spec =
+    tie.close
+    (tie.spec (λ c. search needs) (λ c. search needs) (λ c. search needs) (λ c. search needs) (λ c. search needs) judged-with-requires returns)

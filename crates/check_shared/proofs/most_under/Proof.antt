@@ -1,7 +1,7 @@
 -- `check_shared::most_under`: the greatest of what the calls return.
 -- Assumes nothing.
 use borrow.Author.Needs.{needs}
-use Rattle.check_shared.specs.Keys.{mostUnder}
+use Rattle.check_shared.specs.Sums.{mostUnder}
 use Rattle.check_shared.proofs.most_under.Statement.{statement}
 use Rattle.check_shared.proofs.most_under.Tie as tie
 

@@ -1,7 +1,7 @@
 -- `check_shared::only_under`: each way out is one case of the definition.
 -- Assumes nothing.
 use borrow.Author.Tests.{lt-ltb, le-ltb}
-use Rattle.check_shared.specs.Keys.{under}
+use Rattle.check_shared.specs.Sums.{under}
 use Rattle.check_shared.proofs.only_under.Statement.{statement}
 use Rattle.check_shared.proofs.only_under.Tie as tie
 

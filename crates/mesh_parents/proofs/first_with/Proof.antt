@@ -4,7 +4,7 @@ use borrow.Author.Needs.{needs}
 use Prim.Native.Nat.{ℕ, _-_}
 use mathlib.Core.Path.{_≡_, sym, _∙_, ap, ap₂}
 use native.Mathlib.Omega.{arith}
-use lib.ListN.{getD}
+use lib.ListN.{length, getD}
 use denote.Ref.{now}
 use Rattle.laws.specs.Links.{firstAlong, first-along-none, first-along-past, link-down}
 use Rattle.mesh_tables.specs.Tables.{tables, hasParents}
@@ -15,7 +15,7 @@ use Rattle.mesh_parents.proofs.first_with.Tie as tie
 abbrev Inv-loop : tie.InvT-loop
 Inv-loop h l base grown heads nexts ends found₀ to₀ found to =
     firstAlong nexts (hasParents (tables h l base grown) ends) to found
-    ≡ firstAlong nexts (hasParents (tables h l base grown) ends) (getD heads (pairKey ends) 0) (h .vertices)
+    ≡ firstAlong nexts (hasParents (tables h l base grown) ends) (getD heads (pairKey (length heads) ends) 0) (h .vertices)
 
 abbrev μ-loop : tie.MeasureT-loop
 μ-loop h l base grown heads nexts ends found₀ to₀ found to = to

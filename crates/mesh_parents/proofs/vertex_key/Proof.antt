@@ -16,7 +16,7 @@ returns-2 : tie.Need-returns-2
 unfolding keyOf
 returns-2 c =
     rw (le-ltb _ _ (c .before .before .if1 .left))
-    (c .pair-key .ensures ∙ ap (λ (x : Parents). pairKey (record { lower = x .p; higher = x .q })) (c .before .parents-in .ensures))
+    (c .pair-key .ensures ∙ ap (λ (x : Parents). pairKey (c .before .before .before .before .before .before .args .keys) (record { lower = x .p; higher = x .q })) (c .before .parents-in .ensures))
 
 pub vertex-key-spec : {M : Type 1} → statement M
 vertex-key-spec = tie.close (tie.spec (λ c. search needs) returns (λ c κs. search needs) (λ c κs. search needs) returns-2)

@@ -31,7 +31,7 @@ loop-again c =
     let was = c .before .before .loop in
     let m = tables (a .h) (a .l) (now (a .base)) (now (a .grown)) in
     let linked = start .pre .0 in
-    let hangs = leaf-hangs-along m (allVertices m) (now (a .heads)) (now (a .nexts)) (linked .chain) (linked .long) (le-refl (allVertices m)) (was .n) in (
+    let hangs = leaf-hangs-along m (allVertices m) (now (a .heads)) (now (a .nexts)) (linked .chain) (linked .keys) (le-refl (allVertices m)) (was .n) in (
       omega arith,
       chosen-next (leafHangs m) (was .n) (was .chosen) (was .some) (c .leaf-hangs .result) (was .inv .1) (omega (arith, was .inv .2, start .pre .1)) (c .leaf-hangs .ensures ∙ hangs),
       simp length-set (was .inv .2),

@@ -1,4 +1,4 @@
--- `refine_pass::choose_named` has counted the numbers before i.
+-- `refine_pass::choose_named` has counted the numbers before i in a table that was cleared.
 -- Assumes nothing.
 use borrow.Author.Needs.{needs}
 use Prim.Native.Nat.{_≤_, _-_}
@@ -23,15 +23,15 @@ loop-holds c = (omega arith, sym (counts-none _ _))
 
 loop-again : tie.Need-loop-again Inv-loop μ-loop
 loop-again c =
-    let a = c .before .before .before .before .before .before .before .before .before .args in
+    let a = c .before .before .before .before .before .before .before .before .before .before .before .before .before .args in
     let was = c .before .before .before .before .before .before .loop in
-    (omega arith, counts-next (λ t i. countedAt t (namedIn (now (a .selection)) i)) (now (a .chosen)) (was .i) (was .chosen) (c .before .before .count .last .0) (was .inv .1) (c .before .before .count .ensures ∙ ap (countedAt (was .chosen)) (c .before .before .before .named-in .ensures)))
+    (omega arith, counts-next (λ t i. countedAt t (namedIn (now (a .selection)) i)) _ (was .i) (was .chosen) (c .before .before .count .last .0) (was .inv .1) (c .before .before .count .ensures ∙ ap (countedAt (was .chosen)) (c .before .before .before .named-in .ensures)))
 
 same-length : tie.Need-same-length Inv-loop μ-loop
-same-length c = ap length (c .before .loop .inv .1) ∙ counts-long _ (key-marking _ .long) _ _
+same-length c = ap length (c .before .loop .inv .1) ∙ counts-long _ (key-marking _ .long) _ _ ∙ c .before .before .before .chosen .given
 
 returns : tie.Need-returns Inv-loop μ-loop
-returns c = counts-end _ _ _ _ _ (c .loop-test .left) (c .before .loop .inv .0) (c .before .loop .inv .1)
+returns c = rw (← c .before .before .before .before .clear .ensures) (counts-end _ _ _ _ _ (c .loop-test .left) (c .before .loop .inv .0) (c .before .loop .inv .1))
 
 pub choose-named-spec : {M : Type 1} → statement M
-choose-named-spec = tie.close (tie.spec Inv-loop μ-loop loop-holds (λ c κs. search needs) (λ c. search needs) (λ c κs. search needs) (λ c. search needs) (λ c. search needs) loop-again same-length returns)
+choose-named-spec = tie.close (tie.spec Inv-loop μ-loop (λ c κs. search needs) loop-holds (λ c κs. search needs) (λ c. search needs) (λ c κs. search needs) (λ c. search needs) (λ c. search needs) loop-again same-length returns)

@@ -9,7 +9,7 @@ use Rattle.laws.specs.Counts.{marked}
 use Rattle.mesh_tables.specs.Tables.{leafHangs, hangingEdge}
 use Rattle.refine_cut.specs.Slices.{slices, tablesIn}
 use Rattle.refine_pass.specs.Puts.{closingPut}
-use Rattle.refine_pass.specs.Steps.{pass-same, closing-beyond, closing-none, closing-next, closing-out}
+use Rattle.refine_pass.specs.Steps.{pass-same, closing-exceeds, closing-none, closing-next, closing-out}
 use Rattle.refine_pass.specs.Law.{within}
 use Rattle.refine_pass.specs.Linked.{AtWork}
 use Rattle.refine_pass.proofs.close.Statement.{statement}
@@ -28,12 +28,12 @@ returns : tie.Need-returns Inv-loop μ-loop
 returns c =
     let a = c .before .before .before .before .before .before .before .before .before .args in
     let was = c .before .before .before .loop in
-    closing-beyond (a .most) (a .l) (was .left) (slices (was .with) (was .base) (was .grown)) (sym (c .before .is-beyond .ensures) ∙ c .if1 .taken) ∙ was .inv .0
+    closing-exceeds (a .most) (a .l) (was .left) (slices (was .with) (was .base) (was .grown)) (sym (c .before .exceeds .ensures) ∙ c .if1 .taken) ∙ was .inv .0
 
 choose-hanging-requires : tie.Need-choose-hanging-requires Inv-loop μ-loop
 choose-hanging-requires c κs =
     let was = c .before .before .before .before .before .before .before .before .loop in
-    let (v, r) = within (c .before .before .before .before .before .before .before .before .before .before .before .before .before .before .args .most) (was .with) (sym (c .before .before .before .before .before .before .is-beyond .ensures) ∙ c .before .before .before .before .before .if1 .left) in
+    let (v, r) = within (c .before .before .before .before .before .before .before .before .before .before .before .before .before .before .args .most) (was .with) (sym (c .before .before .before .before .before .before .exceeds .ensures) ∙ c .before .before .before .before .before .if1 .left) in
     (was .inv .1 .linked, omega (arith, r, was .inv .6, c .before .before .before .before .before .before .before .before .before .before .before .before .before .before .pre .1))
 
 returns-2 : tie.Need-returns-2 Inv-loop μ-loop
@@ -53,7 +53,7 @@ loop-again c =
     let next = c .before .before .before .before .before .before .before .before .pass in
     let s = slices (was .with) (was .base) (was .grown) in
     let t = slices (next .result) (next .last .1 .1 .1 .0) (next .last .1 .1 .1 .1 .0) in (
-      closing-next (a .most) (a .l) (was .left) s t (c .before .before .before .before .before .before .before .before .before .before .before .before .before .before .before .before .before .before .before .before .before .before .before .before .before .loop-test .taken) (sym (c .before .before .before .before .before .before .before .before .before .before .before .before .before .before .before .before .before .before .before .before .before .before .before .before .is-beyond .ensures) ∙ c .before .before .before .before .before .before .before .before .before .before .before .before .before .before .before .before .before .before .before .before .before .before .before .if1 .left)
+      closing-next (a .most) (a .l) (was .left) s t (c .before .before .before .before .before .before .before .before .before .before .before .before .before .before .before .before .before .before .before .before .before .before .before .before .before .loop-test .taken) (sym (c .before .before .before .before .before .before .before .before .before .before .before .before .before .before .before .before .before .before .before .before .before .before .before .before .exceeds .ensures) ∙ c .before .before .before .before .before .before .before .before .before .before .before .before .before .before .before .before .before .before .before .before .before .before .before .if1 .left)
           (sym (chosen .ensures .any) ∙ not-false (chosen .result) (c .before .before .before .before .before .before .before .before .before .before .before .before .before .before .if2 .left))
           (pass-same (a .most) (a .l) (marked (chosen .last .1 .1 .1 .1 .1 .1 .0)) (leafHangs (tablesIn (a .l) s)) s t (chosen .ensures .each) (next .ensures .0))
           ∙ was .inv .0,

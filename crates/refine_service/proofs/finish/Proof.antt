@@ -15,8 +15,8 @@ use Rattle.refine_service.proofs.finish.Statement.{statement}
 use Rattle.refine_service.proofs.finish.Tie as tie
 
 -- What is asked of the limits of version 1.
-asked : (c : tie.After-is-beyond) {b : Bool} → c .is-beyond .result ≡ b → exceeds limits (c .before .before .before .before .before .args .h) ≡ b
-asked c e = sym (c .is-beyond .ensures ∙ ap (λ (m : Limits). exceeds m (c .before .before .before .before .before .args .h)) (c .before .limits-of-version-1 .ensures)) ∙ e
+asked : (c : tie.After-exceeds) {b : Bool} → c .exceeds .result ≡ b → exceeds limits (c .before .before .before .before .before .args .h) ≡ b
+asked c e = sym (c .exceeds .ensures ∙ ap (λ (m : Limits). exceeds m (c .before .before .before .before .before .args .h)) (c .before .limits-of-version-1 .ensures)) ∙ e
 
 returns : tie.Need-returns
 returns c =

@@ -2,6 +2,7 @@
 -- Assumes nothing.
 use borrow.Author.Needs.{needs}
 use mathlib.Core.Path.{_≡_, _∙_}
+use mathlib.Core.Bool.{false}
 use Prim.Native.Nat.{_+_, _*_}
 use native.Mathlib.Omega.{arith}
 use lib.ListN.{length}
@@ -27,8 +28,8 @@ finish-requires c κs =
     let bytes : Bytes mesh = record { byte = λ k. omega (arith, c .before .before .before .before .before .before .before .before .before .before .before .before .before .before .before .before .before .shared-slice-known .given k) } in
     let vertices = worked .last .1 .0 in
     let records = worked .last .1 .1 .0 in
-    let is : slices (worked .result) vertices records ≡ refinedWithin (isNamed (selectionOf selection .count) (namedIn selection)) (slices (a .h) (copiedVertices mesh selection out (a .h) pre) (copiedRecords mesh selection out (a .h) pre)) =
-    worked .ensures ∙ (λ i. refinedWithin (isNamed (c .before .before .before .before .before .before .before .before .before .selection-of .ensures i .count) (namedIn selection)) (slices (a .h) (copied .ensures .0 i) (copied .ensures .1 i))) in
+    let is : slices (worked .result) vertices records ≡ refinedWithin false (isNamed (selectionOf selection .count) (namedIn selection)) (slices (a .h) (copiedVertices mesh selection out (a .h) pre) (copiedRecords mesh selection out (a .h) pre)) =
+    worked .ensures ∙ (λ i. refinedWithin false (isNamed (c .before .before .before .before .before .before .before .before .before .selection-of .ensures i .count) (namedIn selection)) (slices (a .h) (copied .ensures .0 i) (copied .ensures .1 i))) in
     let long : length vertices ≡ vertexWidth * (limits .vertices + 1) = c .before .before .before .before .vertices4 .given in
     let deep : length records ≡ recordWidth * (limits .records + 2) = c .before .before .before .records4 .given in
     worked-assembled mesh selection out (a .h) pre bytes (worked .result) vertices records is long deep
@@ -45,8 +46,8 @@ returns c =
     let bytes : Bytes mesh = record { byte = λ k. omega (arith, c .before .before .before .before .before .before .before .before .before .before .before .before .before .before .before .before .before .before .before .before .shared-slice-known .given k) } in
     let vertices = worked .last .1 .0 in
     let records = worked .last .1 .1 .0 in
-    let is : slices (worked .result) vertices records ≡ refinedWithin (isNamed (selectionOf selection .count) (namedIn selection)) (slices (a .h) (copiedVertices mesh selection out (a .h) pre) (copiedRecords mesh selection out (a .h) pre)) =
-    worked .ensures ∙ (λ i. refinedWithin (isNamed (c .before .before .before .before .before .before .before .before .before .before .before .before .selection-of .ensures i .count) (namedIn selection)) (slices (a .h) (copied .ensures .0 i) (copied .ensures .1 i))) in
+    let is : slices (worked .result) vertices records ≡ refinedWithin false (isNamed (selectionOf selection .count) (namedIn selection)) (slices (a .h) (copiedVertices mesh selection out (a .h) pre) (copiedRecords mesh selection out (a .h) pre)) =
+    worked .ensures ∙ (λ i. refinedWithin false (isNamed (c .before .before .before .before .before .before .before .before .before .before .before .before .selection-of .ensures i .count) (namedIn selection)) (slices (a .h) (copied .ensures .0 i) (copied .ensures .1 i))) in
     let long : length vertices ≡ vertexWidth * (limits .vertices + 1) = c .before .before .before .before .before .before .before .vertices4 .given in
     let deep : length records ≡ recordWidth * (limits .records + 2) = c .before .before .before .before .before .before .records4 .given in
     (c .before .before .finish .ensures .0 ∙ later-number mesh selection out (a .h) pre bytes (worked .result) vertices records is long deep (length out), c .before .before .finish .ensures .1 ∙ later-bytes mesh selection out (a .h) pre bytes (worked .result) vertices records is long deep (length out))

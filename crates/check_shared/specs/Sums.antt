@@ -1,8 +1,8 @@
--- A number made of a face's corners, by which faces are linked: faces with the same corners have the same one.
+-- A sum made of a face's corners, by which faces are linked: faces with the same corners have the same one.
 use mathlib.Core.Path.{_≡_}
 use mathlib.Core.Bool.{true, false, cond, _&&_, _||_}
 use mathlib.Core.Logic.{⊎-elim}
-use Prim.Native.Nat.{ℕ, _+_, _*_, _%_, _≤_, _<_, max}
+use Prim.Native.Nat.{ℕ, _+_, _*_, _≤_, max}
 use native.Mathlib.Nat.{le-antisymm}
 use native.Mathlib.Omega.{arith}
 use lib.Dec.{eqb, ltb}
@@ -10,10 +10,6 @@ use borrow.Author.Tests.{eqb-true}
 use Rattle.laws.specs.Below.{and-left, and-right, or-second, either}
 use Rattle.check_shared.specs.declared.Face.{Face}
 use Rattle.check_shared.specs.Faces.{holds, inside, sameSet}
-
--- How many keys there are.
-abbrev pub faceHeads : ℕ
-faceHeads = 32768
 
 -- A number that is below top; 0 instead of another.
 unfoldable pub under : ℕ → ℕ → ℕ
@@ -36,13 +32,9 @@ secondOf f = mostUnder (firstOf f) f
 unfoldable pub thirdOf : Face → ℕ
 thirdOf f = mostUnder (secondOf f) f
 
-unfoldable pub keyOf : Face → ℕ
-keyOf f = (firstOf f + 37 * secondOf f + 1029 * thirdOf f) % faceHeads
-
--- A key is one of the heads'.
-pub key-within : (f : Face) → keyOf f < faceHeads
-unfolding keyOf
-key-within f = omega arith
+-- Their sum, each with its factor.
+unfoldable pub cornerSum : Face → ℕ
+cornerSum f = firstOf f + 37 * secondOf f + 1029 * thirdOf f
 
 -- ---- the same for faces with the same corners
 
@@ -88,6 +80,6 @@ module _ (f h : Face) (e : sameSet f h ≡ true) where
   unfolding thirdOf mostUnder
   same-third = rw same-second (same-most (under (secondOf h)) f h e)
 
-  pub same-key : keyOf f ≡ keyOf h
-  unfolding keyOf
-  same-key = rw (same-first, same-second, same-third)
+  pub same-sum : cornerSum f ≡ cornerSum h
+  unfolding cornerSum
+  same-sum = rw (same-first, same-second, same-third)
