@@ -1,0 +1,2 @@
+-- Numbers of which some remain and close up in their order.
+pub mod Remaining
