@@ -1,0 +1,4 @@
+-- Taking cuts back, in demand 2's words, and the numbering of what remains.
+pub mod Words
+pub mod Renumbered
+pub mod Smaller
