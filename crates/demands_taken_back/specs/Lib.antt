@@ -2,3 +2,5 @@
 pub mod Words
 pub mod Renumbered
 pub mod Smaller
+pub mod Stored
+pub mod ByNumbers

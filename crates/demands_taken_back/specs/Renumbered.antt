@@ -36,8 +36,8 @@ pub record StillThere (b : BaseMesh) (D : Cuts (b .pieces)) (N : Numbering) (ver
 
 -- "Records and vertices that remain close up in their order": what is number k now was number `oldBelow k`, and parents, corners and first children have their new
 -- numbers, how many below them remain. A record whose children go is a leaf again.
-abbrev pub closedUp : (b : BaseMesh) → Cuts (b .pieces) → Numbering → (ℕ → Bool) → (ℕ → Bool) → Numbering
-closedUp b D N vertexStays recordStays =
+abbrev pub numbersLeft : (b : BaseMesh) → Cuts (b .pieces) → Numbering → (ℕ → Bool) → (ℕ → Bool) → Numbering
+numbersLeft b D N vertexStays recordStays =
     let vertex = oldBelow (N .vertices) vertexStays in
     let entry = oldBelow (N .records) recordStays in
     record {
@@ -72,7 +72,7 @@ module _ (b : BaseMesh) (marked : ProperlyMarked b) (C D : Cuts (b .pieces)) (in
     (vertexStays recordStays : ℕ → Bool) (still : StillThere b D N vertexStays recordStays)
   where
     abbrev N′ : Numbering
-    N′ = closedUp b D N vertexStays recordStays
+    N′ = numbersLeft b D N vertexStays recordStays
 
     abbrev oldVertex : ℕ → ℕ
     oldVertex = oldBelow (N .vertices) vertexStays
