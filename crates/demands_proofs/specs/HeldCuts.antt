@@ -138,7 +138,7 @@ module _ (t : Tables) (b : BaseMesh) (C : Cuts (b .pieces)) (N : Numbering) (h :
   edge-at r l = ap (λ (s : Shape). s .edge) (shape-at t b C N h marked nv nr r l)
 
   -- The vertex that a cut makes has the ends of the refinement edge as parents.
-  makes-parents : (v : ℕ) → v < N .vertices → (r : ℕ) → r < N .records → N .nameAt v ≡ makes (over r) → HasParents t (Check.refinementEnds (held r)) v
+  pub makes-parents : (v : ℕ) → v < N .vertices → (r : ℕ) → r < N .records → N .nameAt v ≡ makes (over r) → HasParents t (Check.refinementEnds (held r)) v
   makes-parents v l r lr q = subst (λ (e : ℕ). HasParents t (endsOf (held r) e) v) (sym (edge-at r lr)) (midpoint-parents v l r lr (over r .shape .edge) q)
 
   module _ (r : ℕ) (l : r < N .records) where

@@ -9,11 +9,10 @@ use native.Mathlib.Omega.{arith}
 use lib.Dec.{eqb, ltb}
 use borrow.Author.Tests.{eqb-true, eq-eqb, not-true}
 use Rattle.laws.specs.Below.{either, and-left, and-right, anyBelow, any-where, any-fails-at}
-use Rattle.laws.specs.Pairs.{SamePair}
-use Rattle.piece_edges.specs.Edges.{lowSlot, highSlot, slots-small}
+use Rattle.piece_edges.specs.Edges.{lowSlot, highSlot}
 use Rattle.stored.specs.Layout.{none, namedIn}
 use Rattle.cuts_names.specs.Lists.{both-ways, not-so}
-use Rattle.cuts_names.specs.Names.{Name, mid, mid-sym, mid-injective, mid-not-base}
+use Rattle.cuts_names.specs.Names.{mid-not-base}
 use Rattle.cuts_names.specs.Pieces.{Side, low, high, makes, Node, kid, pieceAt}
 use Rattle.cuts.specs.Sets.{Cuts, There}
 use Rattle.cuts.specs.Depth.{cut-there}
@@ -58,34 +57,6 @@ pub record ByNumbers (b : BaseMesh) (C : Cuts (b .pieces)) (N : Numbering) (requ
 -- ---- a numbered set
 
 module _ (b : BaseMesh) (C : Cuts (b .pieces)) (N : Numbering) (nv : VerticesNumbered b C N) (nr : RecordsNumbered b C N) where
-  -- "Cut at it": the cut records whose refinement edge has the vertex's two parents as ends.
-  pub ends-are-parents : (r v : ℕ) → r < N .records → b .vertices ≤ v → v < N .vertices →
-      let e = pieceAt (named b) (N .nodeAt r) .shape .edge in
-      (N .nameAt v ≡ makes (pieceAt (named b) (N .nodeAt r))) ↔ SamePair (N .pAt v) (N .qAt v) (N .cornerAt r (lowSlot e)) (N .cornerAt r (highSlot e))
-  ends-are-parents r v h beyond l =
-      let e = pieceAt (named b) (N .nodeAt r) .shape .edge in
-      let m = nv .made v beyond l in
-      let ends = slots-small e in
-      let at-low = nr .corner r h (lowSlot e) (ends .0) in
-      let at-high = nr .corner r h (highSlot e) (ends .1) in
-      let low-there = nr .corner-there r h (lowSlot e) (ends .0) in
-      let high-there = nr .corner-there r h (highSlot e) (ends .1) in
-      let p-there : N .pAt v < N .vertices = omega (arith, m .p<q, m .q<v, l) in
-      let q-there : N .qAt v < N .vertices = omega (arith, m .q<v, l) in
-      let one : (i c : ℕ) (y : Name) → i < N .vertices → c < N .vertices → N .nameAt c ≡ y → N .nameAt i ≡ y → i ≡ c = λ i c y hi hc is same. nv .once i c hi hc (same ∙ sym is) in (
-        λ same.
-            ⊎-elim
-            (λ s. inl (one (N .pAt v) (N .cornerAt r (lowSlot e)) _ p-there low-there at-low (s .0), one (N .qAt v) (N .cornerAt r (highSlot e)) _ q-there high-there at-high (s .1)))
-            (λ s. inr (one (N .pAt v) (N .cornerAt r (highSlot e)) _ p-there high-there at-high (s .0), one (N .qAt v) (N .cornerAt r (lowSlot e)) _ q-there low-there at-low (s .1)))
-            (mid-injective (N .nameAt (N .pAt v)) (N .nameAt (N .qAt v)) _ _ (sym (m .name) ∙ same)),
-        λ pair.
-            m .name
-            ∙ ⊎-elim
-            (λ s. ap₂ mid (ap (N .nameAt) (s .0) ∙ at-low) (ap (N .nameAt) (s .1) ∙ at-high))
-            (λ s. ap₂ mid (ap (N .nameAt) (s .0) ∙ at-high) (ap (N .nameAt) (s .1) ∙ at-low) ∙ mid-sym _ _)
-            pair,
-      )
-
   -- ---- leaves and children by numbers
 
   module _ (few : N .records ≤ none) where

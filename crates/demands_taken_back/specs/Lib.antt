@@ -4,3 +4,6 @@ pub mod Renumbered
 pub mod Smaller
 pub mod Stored
 pub mod ByNumbers
+pub mod ByTables
+pub mod TablesLeft
+pub mod FromTables

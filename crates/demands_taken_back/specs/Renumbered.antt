@@ -89,11 +89,11 @@ module _ (b : BaseMesh) (marked : ProperlyMarked b) (C D : Cuts (b .pieces)) (in
     -- ---- vertices
 
     -- Base vertices stay.
-    base-vertex-stays : (v : ℕ) → v < b .vertices → vertexStays v ≡ true
+    pub base-vertex-stays : (v : ℕ) → v < b .vertices → vertexStays v ≡ true
     base-vertex-stays v h = still .vertices v (omega (arith, h, nv .base-first)) .1 (inl (v, h, nv .base-name v h))
 
     -- What is made now was made before.
-    made-before : (v : ℕ) → b .vertices ≤ v → v < N′ .vertices → b .vertices ≤ oldVertex v
+    pub made-before : (v : ℕ) → b .vertices ≤ v → v < N′ .vertices → b .vertices ≤ oldVertex v
     made-before v beyond h =
         let (below, stays, new) = old-there vertexStays (N .vertices) v h in
         ⊎-elim
@@ -110,7 +110,7 @@ module _ (b : BaseMesh) (marked : ProperlyMarked b) (C D : Cuts (b .pieces)) (in
         (still .vertices v h .0 stays)
 
     -- Its parents are corners of the piece that is cut; so they stay.
-    parents-stay : (v : ℕ) → b .vertices ≤ v → v < N .vertices → vertexStays v ≡ true → (vertexStays (N .pAt v) ≡ true) × (vertexStays (N .qAt v) ≡ true)
+    pub parents-stay : (v : ℕ) → b .vertices ≤ v → v < N .vertices → vertexStays v ≡ true → (vertexStays (N .pAt v) ≡ true) × (vertexStays (N .qAt v) ≡ true)
     parents-stay v beyond h stays =
         let m = nv .made v beyond h in
         let (n, t, e) = still-made v beyond h stays in
@@ -181,7 +181,7 @@ module _ (b : BaseMesh) (marked : ProperlyMarked b) (C D : Cuts (b .pieces)) (in
     base-record-stays r h = still .records r (omega (arith, h, nr .base-first)) .1 (subst (There D) (sym (nr .base-node r h)) h)
 
     -- The corners of a record that stays are vertices that stay.
-    corners-stay : (r : ℕ) → r < N .records → recordStays r ≡ true → (j : ℕ) → j < 4 → vertexStays (N .cornerAt r j) ≡ true
+    pub corners-stay : (r : ℕ) → r < N .records → recordStays r ≡ true → (j : ℕ) → j < 4 → vertexStays (N .cornerAt r j) ≡ true
     corners-stay r h stays j l =
         still .vertices (N .cornerAt r j) (nr .corner-there r h j l) .1
         (subst (VertexThere b D) (sym (nr .corner r h j l)) (corner-stays b marked D (N .nodeAt r) (still .records r h .0 stays) j l))
