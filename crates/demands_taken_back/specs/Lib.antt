@@ -7,3 +7,4 @@ pub mod ByNumbers
 pub mod ByTables
 pub mod TablesLeft
 pub mod FromTables
+pub mod One
