@@ -48,7 +48,7 @@ pub record ByNumbers (b : BaseMesh) (C : Cuts (b .pieces)) (N : Numbering) (requ
   pub cut-at : (r : ℕ) → r < N .records → C .has (N .nodeAt r) ≡ true → N .nameAt (cutVertex r) ≡ makes (pieceAt (named b) (N .nodeAt r))
   -- a cut record is freed where it is named and "has two leaves as children"
   pub freed-exactly : (r : ℕ) → r < N .records → C .has (N .nodeAt r) ≡ true →
-      (freed r ≡ true) ↔ (NamedNumber request r × (N .firstAt (N .firstAt r) ≡ none) × (N .firstAt (N .firstAt r + 1) ≡ none))
+      (freed r ≡ true) ↔ (NamedNumber request r × ((N .firstAt (N .firstAt r) ≡ none) × (N .firstAt (N .firstAt r + 1) ≡ none)))
   -- base vertices remain, and those that some cut record holds
   pub vertices : (v : ℕ) → v < N .vertices → (vertexStays v ≡ true) ↔ ((v < b .vertices) ⊎ Holder b C N cutVertex freed v)
   -- base records remain, and the children of cut records whose vertex remains
@@ -116,8 +116,8 @@ module _ (b : BaseMesh) (C : Cuts (b .pieces)) (N : Numbering) (nv : VerticesNum
 
         freed-is : (r : ℕ) → r < N .records → C .has (N .nodeAt r) ≡ true → (freed r ≡ true) ↔ (NamedPiece N request (N .nodeAt r) × LeafChildren C (N .nodeAt r))
         freed-is r h t = (
-          λ f. let (name, first, second) = by .freed-exactly r h t .0 f in (named-number r h .1 name, leaf-children r h t .1 (first, second)),
-          λ (name, leaves). let (first, second) = leaf-children r h t .0 leaves in by .freed-exactly r h t .1 (named-number r h .0 name, first, second),
+          λ f. let (name, leaves) = by .freed-exactly r h t .0 f in (named-number r h .1 name, leaf-children r h t .1 leaves),
+          λ (name, leaves). by .freed-exactly r h t .1 (named-number r h .0 name, leaf-children r h t .0 leaves),
         )
 
         -- A vertex that is held is made by a cut that remains.

@@ -15,15 +15,14 @@ use Rattle.piece.specs.Shape.{mark}
 use Rattle.grid.specs.Places.{halfwayOf}
 use Rattle.grid.specs.GridTheorems.{halfway-exactly, halfway-only}
 use Rattle.stored.specs.Layout.{none, meshBytes}
-use Rattle.cuts_names.specs.Names as Names
 use Rattle.cuts_names.specs.Names.{mid-injective}
 use Rattle.cuts_names.specs.Pieces.{Node, generation, high, low, kid, pieceAt}
 use Rattle.cuts.specs.Sets.{Cuts, CutsWithin}
 use Rattle.cuts.specs.Smaller.{by-smaller}
 use Rattle.cuts.specs.Least.{there-within}
 use Rattle.cuts.specs.LinkNames.{base-or-beyond}
-use Rattle.cuts_coarser.specs.Remaining.{remains-one}
-use Rattle.demands_words.specs.Words.{BaseMesh, named, Numbering, VerticesNumbered, RecordsNumbered, firstSide, vertexOf, recordOf, written, StoredMesh, SameNumbering}
+use Rattle.cuts_coarser.specs.Remaining.{remains-one, none-named}
+use Rattle.demands_words.specs.Words.{BaseMesh, named, Numbering, VerticesNumbered, RecordsNumbered, firstSide, vertexOf, recordOf, written, StoredMesh, SameNumbering, countIn}
 use Rattle.demands_proofs.specs.MarkedBase.{before-or-same}
 use Rattle.demands_taken_back.specs.Words.{NamedPiece, SameOrder, TakenBackFrom}
 
@@ -234,3 +233,24 @@ one-taken-back s x request mesh mesh′ t t′ =
     y .bytes
     ∙ ap meshBytes (same-written b (y .numbers) (y′ .numbers) (one-numbering b (t .set) (t′ .set) same (y .numbers) (y′ .numbers) (y .vertices-numbered) (y .records-numbered) (y′ .vertices-numbered) (y′ .records-numbered) order) (x .job) (x .round + 1))
     ∙ sym (y′ .bytes)
+
+-- ---- where nothing goes
+
+module _ (s : List ℕ) (x : StoredMesh s) (request mesh : List ℕ) (t : TakenBackFrom x request mesh) where
+  -- Where all cuts remain, the round alone changes.
+  pub nothing-gone : ((n : Node) → t .set .has n ≡ x .cuts .has n) → mesh ≡ meshBytes (written (x .job) (x .round + 1) (x .base) (x .stores .numbers))
+  nothing-gone all =
+      let y = t .stores in
+      let z = x .stores in
+      y .bytes
+      ∙ ap meshBytes
+      (sym
+      (same-written (x .base) (z .numbers) (y .numbers)
+      (one-numbering (x .base) (x .cuts) (t .set) (λ n. sym (all n)) (z .numbers) (y .numbers) (z .vertices-numbered) (z .records-numbered) (y .vertices-numbered) (y .records-numbered) (t .in-order))
+      (x .job) (x .round + 1)))
+
+  -- So it does for an empty request.
+  pub empty-request : countIn request ≡ 0 → mesh ≡ meshBytes (written (x .job) (x .round + 1) (x .base) (x .stores .numbers))
+  empty-request none =
+      nothing-gone
+      (none-named (named (x .base)) (x .cuts) (NamedPiece (x .stores .numbers) request) (λ n c (i, l, e). omega (arith, l, none)) (t .set) (t .remains))

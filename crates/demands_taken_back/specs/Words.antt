@@ -93,3 +93,13 @@ TakenBackFrom x request mesh = TakenBack (x .job) (x .round) (x .base) (x .cuts)
 abbrev pub TakenBackOrShortFrom : {s : List ℕ} → StoredMesh s → List ℕ → ℕ → List ℕ → ℕ → Type 0
 TakenBackOrShortFrom x request number bytes room =
     TakenBackOrShort (x .job) (x .round) (x .base) (x .cuts) (x .stores .numbers) (NamedPiece (x .stores .numbers) request) number bytes room
+
+-- ---- what is asked of a service that takes cuts back, by its number and all bytes of its output buffer, for a mesh, a request and a buffer of so many bytes
+
+pub record MeetsTakenBack (takeBack : List ℕ → List ℕ → ℕ → ℕ) (takeBackOut : List ℕ → List ℕ → ℕ → List ℕ) : Type 0 where
+  -- For every stored mesh, every good request and every buffer.
+  pub taken-back : (s : List ℕ) (x : StoredMesh s) (request : List ℕ) → GoodRequestFor x request → (room : ℕ) →
+      TakenBackOrShortFrom x request (takeBack s request room) (takeBackOut s request room) room
+  -- A request is good exactly when the answer is 0 or 20 for every buffer.
+  pub good-exactly : (s : List ℕ) (x : StoredMesh s) (request : List ℕ) →
+      GoodRequestFor x request ↔ ((room : ℕ) → (takeBack s request room ≡ 0) ⊎ (takeBack s request room ≡ 20))
