@@ -11,7 +11,7 @@ use native.Mathlib.Omega.{arith}
 use lib.ListN.{length, length-append}
 use lib.Dec.{ltb, eqb}
 use borrow.Author.Tests.{lt-ltb, le-ltb, ltb-true, ltb-false, eqb-true, eq-eqb}
-use Rattle.laws.specs.Below.{either, and-left, and-right, any-is, firstBelow, first-where, bit, bit-small, countBelow, count-none, count-suc, listBelow, list-none, list-suc, list-same, sum-same}
+use Rattle.laws.specs.Below.{either, and-left, and-right, any-is, firstBelow, first-where, bit, bit-small, countBelow, count-none, count-suc, listBelow, list-none, list-suc, list-same}
 
 -- Number k of the result: the number below n that remains and before which k remain.
 unfoldable pub oldBelow : ℕ → (ℕ → Bool) → ℕ → ℕ
@@ -99,16 +99,6 @@ module _ (P : ℕ → Bool) where
       let (below, there, same) = old-there n (countBelow i P) (count-above i n h t) in
       new-once (oldBelow n P (countBelow i P)) i there t same
 
-  -- Old numbers rise.
-  pub old-rises : (n j k : ℕ) → j < k → k < countBelow n P → oldBelow n P j < oldBelow n P k
-  old-rises n j k h l =
-      let (bj, tj, ej) = old-there n j (omega arith) in
-      let (bk, tk, ek) = old-there n k l in
-      ⊎-elim
-      (λ t. ltb-true (oldBelow n P j) (oldBelow n P k) t)
-      (λ f. absurd (omega (arith, ej, ek, count-rises (oldBelow n P k) (oldBelow n P j) (ltb-false (oldBelow n P j) (oldBelow n P k) f))))
-      (either (ltb (oldBelow n P j) (oldBelow n P k)))
-
   -- They do not ask how far the numbers go on.
   pub old-further : (n m k : ℕ) → n ≤ m → k < countBelow n P → oldBelow m P k ≡ oldBelow n P k
   old-further n m k h l =
@@ -166,8 +156,3 @@ module _ (P : ℕ → Bool) where
         past before g =
             let e : countBelow (suc n) P ≡ countBelow n P = rw (count-suc, g) (omega arith) in
             remaining-past n g ∙ before ∙ same ∙ ap (λ (c : ℕ). listBelow c now) (sym e)
-
--- What remains goes by the test below the bound alone.
-pub count-same : (n : ℕ) (P Q : ℕ → Bool) → ((i : ℕ) → i < n → P i ≡ Q i) → countBelow n P ≡ countBelow n Q
-unfolding countBelow
-count-same n P Q h = sum-same n (λ k. bit (P k)) (λ k. bit (Q k)) (λ k l. ap bit (h k l))
