@@ -2,4 +2,3 @@
 pub mod Marking
 pub mod Choosing
 pub mod Shifted
-pub mod Rows

@@ -11,8 +11,7 @@ use lib.IntN.{ℤ}
 use Rattle.laws.specs.Lists.{zeroPast}
 use Rattle.laws.specs.Below.{same-tests}
 use Rattle.stored.specs.Layout.{namedIn}
-use Rattle.build_marks.specs.Rows.{K-coordinates, K-corners}
-use Rattle.refine_meaning.specs.Rows.{K}
+use Rattle.refine_meaning.specs.Rows.{K-coordinates, K-corners, K}
 use Rattle.cuts_names.specs.Lists.{both-ways}
 use Rattle.cuts_names.specs.Pieces.{Node}
 use Rattle.cuts.specs.Sets.{Leaf}

@@ -14,11 +14,10 @@ use Rattle.piece_cut.specs.Theorems.{End, unset-P-gives-set-P, set-P-gives-A, o
 use Rattle.grid.specs.Places.{pointOf}
 use Rattle.mesh_tables.specs.Tables.{Tables, tablesOf, pieceAt, isCut, refinementEnds, sixfoldAt}
 use Rattle.check_refusals.specs.Check.{leaves}
-use Rattle.build_marks.specs.Rows.{K-coordinates, K-corners}
 use Rattle.build_service.specs.Build.{buildNumber, buildBytes}
 use Rattle.build_meaning.specs.Rows.{computed as build-computed}
 use Rattle.refine_service.specs.Refine.{refineNumber, refineBytes}
-use Rattle.refine_meaning.specs.Rows.{K-of, K, K-cut, K-four, selecting, computed as refine-computed}
+use Rattle.refine_meaning.specs.Rows.{K-coordinates, K-corners, K-of, K, K-cut, K-four, selecting, computed as refine-computed}
 
 -- ---- what the rows speak of
 

@@ -13,11 +13,10 @@ use Rattle.laws.specs.Below.{and-left, and-right}
 use Rattle.laws.specs.Lists.{zeroPast, Bytes, bytes-none, bytes-cons}
 use Rattle.stored.specs.Layout.{headerOf}
 use Rattle.mesh_tables.specs.Tables.{tablesOf}
-use Rattle.build_marks.specs.Rows.{K-coordinates, K-corners}
 use Rattle.build_service.specs.Build.{buildNumber, buildBytes}
 use Rattle.build_meaning.specs.Rows.{computed as build-computed}
 use Rattle.refine_service.specs.Refine.{refineNumber, refineBytes}
-use Rattle.refine_meaning.specs.Rows.{K, K-of, selecting, computed as refine-computed}
+use Rattle.refine_meaning.specs.Rows.{K-coordinates, K-corners, K, K-of, selecting, computed as refine-computed}
 use Rattle.demands_words.specs.Words.{I16, ArgumentTypes, StoredMesh, BuildAccepts, countIn}
 use Rattle.demands_proofs.specs.RefineNumbers.{refine-accepts-all}
 use Rattle.demands_proofs.specs.StoredOf.{stored-of-accepted}

@@ -4,4 +4,3 @@ pub mod VolumeLaws
 pub mod Formal
 pub mod Halving
 pub mod VolumeTheorems
-pub mod Rows

@@ -4,4 +4,3 @@ pub mod Slices
 pub mod Steps
 pub mod Fits
 pub mod Law
-pub mod Rows
