@@ -2,7 +2,7 @@
 use mathlib.Core.Path.{_≡_, refl, sym, ap, _∙_, subst}
 use mathlib.Core.Bool.{Bool, true}
 use mathlib.Core.Logic.{inl, inr}
-use mathlib.Core.List.{List, [], _++_, append-nil}
+use mathlib.Core.List.{List}
 use Prim.Native.Nat.{ℕ, zero, suc, _+_, _*_, _/_, _≤_, _<_}
 use native.Mathlib.Omega.{arith}
 use lib.ListN.{length, getD}
@@ -96,21 +96,19 @@ module _ (job : ℕ) (coordinates : List ℤ) (corners : List ℕ) (g : Given jo
       let d = plainVertex coordinates v in
       mesh-vertex-bytes (plainMesh job coordinates corners) plain-counted v d (rw list-length l)
       ∙ ap (λ (x : Vertex). vertexFrom (vertexBytes x)) (list-at (plainVertex coordinates) (length coordinates / 3) v d l)
-      ∙ ap vertexFrom (sym (append-nil (vertexBytes d)))
-      ∙ vertex-again d (vertex-fits v l) []
+      ∙ vertex-again d (vertex-fits v l)
 
   -- Check reads the bytes of the plain records, and so their corners, but that 65,535 is read as none.
-  record-bytes-read : (n : ℕ) → n < length corners / 4 → written job coordinates corners .recordAt n ≡ recordFrom (recordBytes (plainRecord coordinates corners n) ++ [])
+  record-bytes-read : (n : ℕ) → n < length corners / 4 → written job coordinates corners .recordAt n ≡ recordFrom (recordBytes (plainRecord coordinates corners n))
   unfolding tablesOf plainBytes plainMesh
   record-bytes-read n l =
       let d = plainRecord coordinates corners n in
       mesh-record-bytes (plainMesh job coordinates corners) plain-counted n d (rw list-length l)
       ∙ ap (λ (x : Record). recordFrom (recordBytes x)) (list-at (plainRecord coordinates corners) (length corners / 4) n d l)
-      ∙ ap recordFrom (sym (append-nil (recordBytes d)))
 
   pub plain-corner-read : (n : ℕ) → n < length corners / 4 → (k : ℕ) → k < 4 → cornerAt (written job coordinates corners .recordAt n .piece) k ≡ orNone (getD (plainRecord coordinates corners n .piece .corners) k 0)
   plain-corner-read n l k s =
-      ap (λ (r : Record). cornerAt (r .piece) k) (record-bytes-read n l) ∙ corner-read (plainRecord coordinates corners n) [] k s (corner-small n l k)
+      ap (λ (r : Record). cornerAt (r .piece) k) (record-bytes-read n l) ∙ corner-read (plainRecord coordinates corners n) k s (corner-small n l k)
 
   module _ (named : (n : ℕ) → n < length corners / 4 → (k : ℕ) → getD (plainRecord coordinates corners n .piece .corners) k 0 < storedNone) where
     record-fits : (n : ℕ) → n < length corners / 4 → RecordFits (plainRecord coordinates corners n)
@@ -145,4 +143,4 @@ module _ (job : ℕ) (coordinates : List ℤ) (corners : List ℕ) (g : Given jo
 
     -- Check reads the plain records.
     pub record-read : (n : ℕ) → n < length corners / 4 → written job coordinates corners .recordAt n ≡ plainRecord coordinates corners n
-    record-read n l = record-bytes-read n l ∙ record-again (plainRecord coordinates corners n) (record-fits n l) []
+    record-read n l = record-bytes-read n l ∙ record-again (plainRecord coordinates corners n) (record-fits n l)

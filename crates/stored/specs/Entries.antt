@@ -101,10 +101,10 @@ pub header-right : (h : Header) (rest : List ℕ) → rightMark (headerBytes h +
 unfolding rightMark marked headerBytes markBytes numberBytes number
 header-right h rest = refl
 
-pub vertex-again : (v : Vertex) → VertexFits v → (rest : List ℕ) → vertexFrom (vertexBytes v ++ rest) ≡ v
+pub vertex-again : (v : Vertex) → VertexFits v → vertexFrom (vertexBytes v) ≡ v
 unfolding vertexFrom vertexBytes numberBytes
-vertex-again v f rest =
-    let bytes : List ℕ = vertexBytes v ++ rest in
+vertex-again v f =
+    let bytes : List ℕ = vertexBytes v in
     λ i.
     record {
       place = record {
@@ -116,10 +116,10 @@ vertex-again v f rest =
       q = number-again (v .q) (drop 10 bytes) (f .q) i;
     }
 
-pub record-again : (r : Record) → RecordFits r → (rest : List ℕ) → recordFrom (recordBytes r ++ rest) ≡ r
+pub record-again : (r : Record) → RecordFits r → recordFrom (recordBytes r) ≡ r
 unfolding recordFrom recordBytes numberBytes
-record-again r f rest =
-    let bytes : List ℕ = recordBytes r ++ rest in
+record-again r f =
+    let bytes : List ℕ = recordBytes r in
     (λ i.
     record {
       piece = record {
@@ -150,17 +150,17 @@ record-again r f rest =
     })
 
 -- A corner that was written is read again, but that 65,535 is read as none.
-pub corner-read : (r : Record) (rest : List ℕ) (k : ℕ) → k < 4 → U16 (getD (r .piece .corners) k 0) → getD (recordFrom (recordBytes r ++ rest) .piece .corners) k 0 ≡ orNone (getD (r .piece .corners) k 0)
+pub corner-read : (r : Record) (k : ℕ) → k < 4 → U16 (getD (r .piece .corners) k 0) → getD (recordFrom (recordBytes r) .piece .corners) k 0 ≡ orNone (getD (r .piece .corners) k 0)
 unfolding recordFrom recordBytes numberBytes
-corner-read r rest k l h = at k l h
+corner-read r k l h = at k l h
   where
     bytes : List ℕ
-    bytes = recordBytes r ++ rest
+    bytes = recordBytes r
 
     read : (n : ℕ) (more : List ℕ) → U16 n → orNone (number 2 (storedOrNone n % 256 ∷ storedOrNone n / 256 % 256 ∷ more)) ≡ orNone n
     read n more u = ap orNone (u16-again (storedOrNone n) more (rw (stored-same n u) u) ∙ stored-same n u)
 
-    at : (k : ℕ) → k < 4 → U16 (getD (r .piece .corners) k 0) → getD (recordFrom (recordBytes r ++ rest) .piece .corners) k 0 ≡ orNone (getD (r .piece .corners) k 0)
+    at : (k : ℕ) → k < 4 → U16 (getD (r .piece .corners) k 0) → getD (recordFrom (recordBytes r) .piece .corners) k 0 ≡ orNone (getD (r .piece .corners) k 0)
     at zero l u = read (getD (r .piece .corners) 0 0) (drop 2 bytes) u
     at (suc zero) l u = read (getD (r .piece .corners) 1 0) (drop 4 bytes) u
     at (suc (suc zero)) l u = read (getD (r .piece .corners) 2 0) (drop 6 bytes) u

@@ -40,6 +40,14 @@ module _ (w : ℕ) (t : Table) (base grown : List ℕ) (i : ℕ) where
   unfolding heldIn
   held-none e = rw (le-ltb i (t .end) e)
 
+-- Two tables of as many entries hold the same where they do below their end.
+pub same-held : (w : ℕ) (t u : Table) (a b c d : List ℕ) → t .end ≡ u .end → ((i : ℕ) → i < t .end → heldIn w t a b i ≡ heldIn w u c d i) → (i : ℕ) → heldIn w t a b i ≡ heldIn w u c d i
+same-held w t u a b c d ends same i =
+    ⊎-elim
+    (λ l. same i (ltb-true i (t .end) l))
+    (λ g. let e = ltb-false i (t .end) g in held-none w t a b i e ∙ sym (held-none w u c d i (omega arith)))
+    (either (ltb i (t .end)))
+
 -- ---- where an entry is written
 
 module _ (w : ℕ) (t : Table) (s : List ℕ) (i : ℕ) (bytes : List ℕ) where

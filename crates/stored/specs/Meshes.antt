@@ -1,28 +1,31 @@
 -- A mesh and its bytes: each is made from the other without loss, for every mesh that fits and for every list of bytes that refusals 1
 -- and 2 let pass.
-use mathlib.Core.Path.{_≡_, sym, ap, ap₂, _∙_}
+use mathlib.Core.Path.{_≡_, refl, sym, ap, ap₂, _∙_}
 use mathlib.Core.Bool.{Bool, true}
-use mathlib.Core.Logic.{⊎-elim}
 use Prim.Native.Nat.{ℕ, _+_, _-_, _*_, _≤_, _<_}
 use native.Mathlib.Nat.{mul-suc, mul-le-mul-left}
 use native.Mathlib.Omega.{arith}
 use mathlib.Core.List.{List, [], _++_, append-assoc, append-nil}
 use lib.ListN.{length, getD, take, drop, length-append, length-drop}
 use lib.Seq.{sets, take-at, drop-at, take-add, take-all, take-take, take-append-le, length-take-le}
-use lib.Dec.{leb, ltb, eqb}
-use borrow.Author.Tests.{le-leb, eq-eqb, leb-true, eqb-true, ltb-true, ltb-false}
-use Rattle.laws.specs.Below.{either, listBelow, list-of, and-left, and-right}
+use lib.Dec.{leb, eqb}
+use borrow.Author.Tests.{le-leb, eq-eqb, leb-true, eqb-true}
+use Rattle.laws.specs.Below.{listBelow, list-of, and-left, and-right}
 use Rattle.laws.specs.Lists.{drop-take, sets-append, Bytes, bytes-append, bytes-take, bytes-drop, bytes-joined, joined, joined-length, joined-at, joined-below}
 use Rattle.stored.specs.declared.Layout.{Layout}
 use Rattle.stored.specs.declared.Header.{Header}
 use Rattle.stored.specs.declared.Vertex.{Vertex}
 use Rattle.stored.specs.declared.Record.{Record}
 use Rattle.stored.specs.Layout.{headerWidth, vertexWidth, recordWidth, allVertices, allRecords, rightMark, rightLength, meshLength, headerOf, headerBytes, vertexFrom, vertexBytes, recordFrom, recordBytes, heldIn, vertexIn, recordIn, layoutOf, working, assembled, Mesh, meshOf, meshBytes}
-use Rattle.stored.specs.Held.{held-base, held-growth, held-none}
+use Rattle.stored.specs.Held.{held-base, held-growth, same-held}
 use Rattle.stored.specs.Fitting.{HeaderFits, Counted, MeshFits}
 use Rattle.stored.specs.Entries.{header-is-bytes, vertex-is-bytes, record-is-bytes, header-wide, header-again, header-right, header-written-again, vertex-wide, vertex-again, vertex-written-again, record-wide, record-again, record-written-again}
 
 -- ---- from a mesh to its bytes and back
+
+-- The k-th of entries of one width that stand one after the other.
+joined-entry : {A : Type 0} (bytes : A → List ℕ) (w : ℕ) → ((x : A) → length (bytes x) ≡ w) → (xs : List A) (rest : List ℕ) (k : ℕ) (d : A) → k < length xs → take w (drop (w * k) (joined bytes xs ++ rest)) ≡ bytes (getD xs k d)
+joined-entry bytes w wide xs rest k d l = ap (take w) (joined-at bytes w wide xs rest k d l) ∙ take-at (bytes (getD xs k d)) _ w (wide (getD xs k d))
 
 module _ (m : Mesh) (f : Counted m) where
   from-header : meshBytes m ≡ headerBytes (m .header) ++ (joined vertexBytes (m .vertices) ++ joined recordBytes (m .records))
@@ -89,31 +92,23 @@ module _ (m : Mesh) (f : Counted m) where
 
   -- The bytes of each entry are those that were written.
   pub mesh-vertex-bytes : (k : ℕ) (d : Vertex) → k < length (m .vertices) → vertexIn theLayout (meshBytes m) (meshBytes m) k ≡ vertexFrom (vertexBytes (getD (m .vertices) k d))
-  unfolding vertexIn
+  unfolding vertexIn headerOf
   mesh-vertex-bytes k d l =
-      let s = meshBytes m in
-      let x = getD (m .vertices) k d in
-      let counted : headerOf s .vertices ≡ m .header .vertices = λ i. mesh-header i .vertices in
-      let there : k < headerOf s .vertices = omega (arith, f .vertexCount) in
+      let there : k < allVertices (meshBytes m) = omega (arith, vertex-count) in
       ap vertexFrom (
-      held-base vertexWidth (theLayout .vertices) s s k there there
+      held-base vertexWidth (theLayout .vertices) (meshBytes m) (meshBytes m) k there there
       ∙ ap (λ (t : List ℕ). take vertexWidth (drop (vertexWidth * k) t)) mesh-vertices
-      ∙ ap (take vertexWidth) (joined-at vertexBytes vertexWidth vertex-wide (m .vertices) (joined recordBytes (m .records)) k d l)
-      ∙ take-at (vertexBytes x) _ vertexWidth (vertex-wide x)
+      ∙ joined-entry vertexBytes vertexWidth vertex-wide (m .vertices) (joined recordBytes (m .records)) k d l
       )
 
   pub mesh-record-bytes : (k : ℕ) (d : Record) → k < length (m .records) → recordIn theLayout (meshBytes m) (meshBytes m) k ≡ recordFrom (recordBytes (getD (m .records) k d))
-  unfolding recordIn
+  unfolding recordIn headerOf
   mesh-record-bytes k d l =
-      let s = meshBytes m in
-      let x = getD (m .records) k d in
-      let counted : headerOf s .records ≡ m .header .records = λ i. mesh-header i .records in
-      let there : k < headerOf s .records = omega (arith, f .recordCount) in
+      let there : k < allRecords (meshBytes m) = omega (arith, record-count) in
       ap recordFrom (
-      held-base recordWidth (theLayout .records) s s k there there
+      held-base recordWidth (theLayout .records) (meshBytes m) (meshBytes m) k there there
       ∙ ap (λ (t : List ℕ). take recordWidth (drop (recordWidth * k) t)) (mesh-records ∙ sym (append-nil (joined recordBytes (m .records))))
-      ∙ ap (take recordWidth) (joined-at recordBytes recordWidth record-wide (m .records) [] k d l)
-      ∙ take-at (recordBytes x) _ recordWidth (record-wide x)
+      ∙ joined-entry recordBytes recordWidth record-wide (m .records) [] k d l
       )
 
 module _ (m : Mesh) (f : MeshFits m) where
@@ -125,14 +120,10 @@ module _ (m : Mesh) (f : MeshFits m) where
       (bytes-joined recordBytes (m .records) (λ k d l. record-is-bytes (getD (m .records) k d) (f .records k d l)))
 
   pub mesh-vertex : (k : ℕ) (d : Vertex) → k < length (m .vertices) → vertexIn (theLayout m (f .counts)) (meshBytes m) (meshBytes m) k ≡ getD (m .vertices) k d
-  mesh-vertex k d l =
-      let x = getD (m .vertices) k d in
-      mesh-vertex-bytes m (f .counts) k d l ∙ ap vertexFrom (sym (append-nil (vertexBytes x))) ∙ vertex-again x (f .vertices k d l) []
+  mesh-vertex k d l = mesh-vertex-bytes m (f .counts) k d l ∙ vertex-again (getD (m .vertices) k d) (f .vertices k d l)
 
   pub mesh-record : (k : ℕ) (d : Record) → k < length (m .records) → recordIn (theLayout m (f .counts)) (meshBytes m) (meshBytes m) k ≡ getD (m .records) k d
-  mesh-record k d l =
-      let x = getD (m .records) k d in
-      mesh-record-bytes m (f .counts) k d l ∙ ap recordFrom (sym (append-nil (recordBytes x))) ∙ record-again x (f .records k d l) []
+  mesh-record k d l = mesh-record-bytes m (f .counts) k d l ∙ record-again (getD (m .records) k d) (f .records k d l)
 
   pub mesh-again : meshOf (meshBytes m) ≡ m
   unfolding meshOf
@@ -158,23 +149,20 @@ length-says s right =
     let equal : Bool = eqb (length s) (meshLength (allVertices s) (allRecords s)) in
     (leb-true headerWidth (length s) (and-left under equal right), eqb-true (length s) (meshLength (allVertices s) (allRecords s)) (and-right under equal right))
 
--- entry i of either table, where it lies within the bytes
-module _ (s : List ℕ) (b : Bytes s) (from i : ℕ) where
-  pub vertex-at : from + vertexWidth * i + vertexWidth ≤ length s → vertexBytes (vertexFrom (take vertexWidth (drop (vertexWidth * i) (drop from s)))) ≡ take vertexWidth (drop (vertexWidth * i) (drop from s))
-  vertex-at l =
-      let t : List ℕ = drop (vertexWidth * i) (drop from s) in
-      let long : vertexWidth ≤ length t = rw (length-drop (vertexWidth * i) (drop from s), length-drop from s) (omega arith) in
-      let taken : length (take vertexWidth t) ≡ vertexWidth = length-take-le vertexWidth t long in
-      vertex-written-again (take vertexWidth t) (bytes-take vertexWidth t (bytes-drop (vertexWidth * i) (drop from s) (bytes-drop from s b))) (omega arith)
-      ∙ take-all vertexWidth (take vertexWidth t) (omega arith)
+-- entry i of a table, where it lies within the bytes
+module _ {A : Type 0} (w : ℕ) (from : List ℕ → A) (bytes : A → List ℕ) (written-again : (t : List ℕ) → Bytes t → w ≤ length t → bytes (from t) ≡ take w t) where
+  pub entry-at : (s : List ℕ) → Bytes s → (at i : ℕ) → at + w * i + w ≤ length s → bytes (from (take w (drop (w * i) (drop at s)))) ≡ take w (drop (w * i) (drop at s))
+  entry-at s b at i l =
+      let t : List ℕ = drop (w * i) (drop at s) in
+      let long : w ≤ length t = rw (length-drop (w * i) (drop at s), length-drop at s) (omega arith) in
+      let taken : length (take w t) ≡ w = length-take-le w t long in
+      written-again (take w t) (bytes-take w t (bytes-drop (w * i) (drop at s) (bytes-drop at s b))) (omega arith) ∙ take-all w (take w t) (omega arith)
 
-  pub record-at : from + recordWidth * i + recordWidth ≤ length s → recordBytes (recordFrom (take recordWidth (drop (recordWidth * i) (drop from s)))) ≡ take recordWidth (drop (recordWidth * i) (drop from s))
-  record-at l =
-      let t : List ℕ = drop (recordWidth * i) (drop from s) in
-      let long : recordWidth ≤ length t = rw (length-drop (recordWidth * i) (drop from s), length-drop from s) (omega arith) in
-      let taken : length (take recordWidth t) ≡ recordWidth = length-take-le recordWidth t long in
-      record-written-again (take recordWidth t) (bytes-take recordWidth t (bytes-drop (recordWidth * i) (drop from s) (bytes-drop from s b))) (omega arith)
-      ∙ take-all recordWidth (take recordWidth t) (omega arith)
+pub vertex-at : (s : List ℕ) → Bytes s → (at i : ℕ) → at + vertexWidth * i + vertexWidth ≤ length s → vertexBytes (vertexFrom (take vertexWidth (drop (vertexWidth * i) (drop at s)))) ≡ take vertexWidth (drop (vertexWidth * i) (drop at s))
+vertex-at = entry-at vertexWidth vertexFrom vertexBytes vertex-written-again
+
+pub record-at : (s : List ℕ) → Bytes s → (at i : ℕ) → at + recordWidth * i + recordWidth ≤ length s → recordBytes (recordFrom (take recordWidth (drop (recordWidth * i) (drop at s)))) ≡ take recordWidth (drop (recordWidth * i) (drop at s))
+record-at = entry-at recordWidth recordFrom recordBytes record-written-again
 
 pub mesh-written-again : (s : List ℕ) → Bytes s → rightLength s ≡ true → rightMark s ≡ true → meshBytes (meshOf s) ≡ s
 unfolding meshBytes meshOf vertexIn recordIn headerOf
@@ -257,35 +245,23 @@ module _ (h : Header) (vertices records : List ℕ) (long : vertexWidth * h .ver
 
   pub assembled-vertices : vertexIn (working (h .vertices) (h .records)) vertices records ≡ vertexIn (layoutOf h) (assembled h vertices records) (assembled h vertices records)
   unfolding vertexIn assembled
-  assembled-vertices = λ k i. vertexFrom (same i k)
+  assembled-vertices = λ k i. vertexFrom (same-held vertexWidth (working (h .vertices) (h .records) .vertices) (layoutOf h .vertices) vertices records whole whole refl same i k)
     where
-      same : (i : ℕ) → heldIn vertexWidth (working (h .vertices) (h .records) .vertices) vertices records i ≡ heldIn vertexWidth (layoutOf h .vertices) whole whole i
-      same i =
-          ⊎-elim
-          (λ t. let l = ltb-true i (h .vertices) t in
+      same : (i : ℕ) → i < h .vertices → heldIn vertexWidth (working (h .vertices) (h .records) .vertices) vertices records i ≡ heldIn vertexWidth (layoutOf h .vertices) whole whole i
+      same i l =
           working-vertex (h .vertices) (h .records) vertices records i l
           ∙ sym (front-entry vertexWidth i (h .vertices) vertices recordPart l long)
           ∙ ap (λ (r : List ℕ). take vertexWidth (drop (vertexWidth * i) r)) (sym (ap (drop headerWidth) (append-assoc (headerBytes h) vertexPart recordPart) ∙ drop-at (headerBytes h) (vertexPart ++ recordPart) headerWidth (header-wide h)))
-          ∙ sym (held-base vertexWidth (layoutOf h .vertices) whole whole i l l))
-          (λ g. let e = ltb-false i (h .vertices) g in
-          held-none vertexWidth (working (h .vertices) (h .records) .vertices) vertices records i e
-          ∙ sym (held-none vertexWidth (layoutOf h .vertices) whole whole i e))
-          (either (ltb i (h .vertices)))
+          ∙ sym (held-base vertexWidth (layoutOf h .vertices) whole whole i l l)
 
   pub assembled-records : recordIn (working (h .vertices) (h .records)) vertices records ≡ recordIn (layoutOf h) (assembled h vertices records) (assembled h vertices records)
   unfolding recordIn assembled
-  assembled-records = λ k i. recordFrom (same i k)
+  assembled-records = λ k i. recordFrom (same-held recordWidth (working (h .vertices) (h .records) .records) (layoutOf h .records) vertices records whole whole refl same i k)
     where
-      same : (i : ℕ) → heldIn recordWidth (working (h .vertices) (h .records) .records) vertices records i ≡ heldIn recordWidth (layoutOf h .records) whole whole i
-      same i =
-          ⊎-elim
-          (λ t. let l = ltb-true i (h .records) t in
+      same : (i : ℕ) → i < h .records → heldIn recordWidth (working (h .vertices) (h .records) .records) vertices records i ≡ heldIn recordWidth (layoutOf h .records) whole whole i
+      same i l =
           working-record (h .vertices) (h .records) vertices records i l
           ∙ sym (front-entry recordWidth i (h .records) records [] l deep)
           ∙ ap (λ (r : List ℕ). take recordWidth (drop (recordWidth * i) r))
           (append-nil recordPart ∙ sym (drop-at (headerBytes h ++ vertexPart) recordPart (headerWidth + vertexWidth * h .vertices) front-wide))
-          ∙ sym (held-base recordWidth (layoutOf h .records) whole whole i l l))
-          (λ g. let e = ltb-false i (h .records) g in
-          held-none recordWidth (working (h .vertices) (h .records) .records) vertices records i e
-          ∙ sym (held-none recordWidth (layoutOf h .records) whole whole i e))
-          (either (ltb i (h .records)))
+          ∙ sym (held-base recordWidth (layoutOf h .records) whole whole i l l)
