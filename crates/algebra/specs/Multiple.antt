@@ -6,7 +6,7 @@ use Prim.Native.Nat.{ℕ, suc, _+_, _*_, _%_, _/_, _<_}
 use native.Mathlib.Nat.{eq-of-mul-eq-mul-left, mul-zero, mul-mod-right, div-add-mod, add-zero}
 use lib.Dec.{lit<}
 use lib.IntN.{ℤ, pos, negsuc, negℤ, natAbs, _+ℤ_, _-ℤ_, _*ℤ_, *ℤ-comm, +ℤ-invr}
-use Rattle.algebra.specs.Ring.{neg-times, equal-of-difference, times-plus, times-assoc}
+use Rattle.algebra.specs.Ring.{neg-times, equal-of-difference}
 use Rattle.algebra.specs.Solver.{variable, number, plus, minus, times, solve}
 use Rattle.algebra.specs.Absolute.{abs-times, zero-of-abs}
 
@@ -35,21 +35,6 @@ halves x y e = cancel 2 x y (lit< tt) (sym (double x) ∙ e ∙ double y)
 pub record Multiple (m : ℕ) (z : ℤ) : Type 0 where
   pub quotient : ℤ
   pub is : z ≡ pos m *ℤ quotient
-
-pub multiple-plus : {m : ℕ} {x y : ℤ} → Multiple m x → Multiple m y → Multiple m (x +ℤ y)
-multiple-plus {m} {x} {y} h k =
-    record {
-      quotient = h .quotient +ℤ k .quotient;
-      is = ap (λ (z : ℤ). z +ℤ y) (h .is) ∙ ap (λ (z : ℤ). pos m *ℤ h .quotient +ℤ z) (k .is) ∙ sym (times-plus (pos m) (h .quotient) (k .quotient));
-    }
-
--- half a multiple of 2 m is a multiple of m
-pub multiple-half : {m : ℕ} (w : ℤ) → Multiple (2 * m) (w +ℤ w) → Multiple m w
-multiple-half {m} w h =
-    record {
-      quotient = h .quotient;
-      is = cancel 2 w (pos m *ℤ h .quotient) (lit< tt) (sym (double w) ∙ h .is ∙ times-assoc (pos 2) (pos m) (h .quotient));
-    }
 
 exact : (m n : ℕ) → n % m ≡ 0 → n ≡ m * (n / m)
 exact m n e = sym (div-add-mod n m) ∙ ap (λ (k : ℕ). m * (n / m) + k) e ∙ add-zero (m * (n / m))

@@ -27,7 +27,6 @@ pub mod RefineNumbers
 pub mod PlainRules
 pub mod GivenTypes
 pub mod BuildNumbers
-pub mod BuildRefused
 pub mod BuildStores
 pub mod FromStored
 pub mod Inside

@@ -1,19 +1,16 @@
 -- What holds of places on the grid and of places halfway between two, each in one sentence.
 -- Assumes nothing.
-use mathlib.Core.Path.{_≡_, sym, _∙_, ap, subst}
+use mathlib.Core.Path.{_≡_, sym, _∙_, ap}
 use mathlib.Core.Logic.{_↔_}
 use mathlib.Core.Bool.{Bool, true, _&&_, and-eq-true-iff}
 use mathlib.Core.List.{[], _∷_}
-use Prim.Native.Nat.{ℕ, _+_, _*_, _/_, _%_, _^_, _≤_}
-use native.Mathlib.Nat.{pow-succ'}
-use native.Mathlib.Numerals.{add-one}
+use Prim.Native.Nat.{ℕ, _+_, _/_, _%_, _≤_}
 use native.Mathlib.Omega.{arith}
 use borrow.Author.Tests.{eqb-true, eq-eqb, leb-true, le-leb}
 use lib.Dec.{eqb, leb}
-use lib.IntN.{ℤ, pos, natAbs, _+ℤ_, _-ℤ_, _*ℤ_, -ℤ-+ℤ-cancel}
-use Rattle.algebra.specs.Solver.{variable, number, plus, minus, times, solve}
-use Rattle.algebra.specs.Absolute.{abs-times}
-use Rattle.algebra.specs.Multiple.{Multiple, multiple-plus, multiple-half, multiple-of-remainder, remainder-of-multiple}
+use lib.IntN.{ℤ, pos, natAbs, _+ℤ_, _-ℤ_, -ℤ-+ℤ-cancel}
+use Rattle.algebra.specs.Solver.{variable, number, plus, minus, solve}
+use Rattle.algebra.specs.Multiple.{Multiple, multiple-of-remainder, remainder-of-multiple}
 use Rattle.grid.specs.declared.Place.{Place}
 use Rattle.grid.specs.Places.{Point, coordinate, pointOf, coordinateOnGrid, samePlace, isHalfway, halfwayOf, shift}
 use Rattle.grid.specs.Corners.{Midpoint}
@@ -106,51 +103,3 @@ halfway-only w a b e =
   where
     half : {w s : ℕ} → w + w ≡ s → w ≡ s / 2
     half e = omega arith
-
--- all three coordinates are multiples of m
-pub record Multiples (m : ℕ) (p : Point) : Type 0 where
-  pub x : Multiple m (p .x)
-  pub y : Multiple m (p .y)
-  pub z : Multiple m (p .z)
-
--- the sum of two places whose coordinates are multiples of 2 m is even
-even : (m p q : ℕ) → Multiple (2 * m) (coordinate p) → Multiple (2 * m) (coordinate q) → (p + q) / 2 + (p + q) / 2 ≡ p + q
-even m p q h k = double (p + q) (natAbs (pos m *ℤ s .quotient +ℤ pos shift)) (ap natAbs exact ∙ abs-times (pos 2) (pos m *ℤ s .quotient +ℤ pos shift))
-  where
-    s : Multiple (2 * m) (coordinate p +ℤ coordinate q)
-    s = multiple-plus h k
-
-    exact : pos (p + q) ≡ pos 2 *ℤ (pos m *ℤ s .quotient +ℤ pos shift)
-    exact =
-        sym (-ℤ-+ℤ-cancel (pos (p + q)) (pos 65536)) ∙ ap (λ (z : ℤ). z +ℤ pos 65536) (sym (coordinates-add p q) ∙ s .is)
-        ∙ solve (plus (times (times (number (pos 2)) (variable 0)) (variable 1)) (number (pos 65536)))
-        (times (number (pos 2)) (plus (times (variable 0) (variable 1)) (number (pos shift))))
-        tt (pos m ∷ s .quotient ∷ [])
-
-    double : (n k : ℕ) → n ≡ 2 * k → n / 2 + n / 2 ≡ n
-    double n k e = omega arith
-
-half-multiple : (m p q : ℕ) → Multiple (2 * m) (coordinate p) → Multiple (2 * m) (coordinate q) → Multiple m (coordinate ((p + q) / 2))
-half-multiple m p q h k =
-    multiple-half (coordinate ((p + q) / 2))
-    (subst (Multiple (2 * m)) (sym (half-coordinate ((p + q) / 2) p q (even m p q h k))) (multiple-plus h k))
-
--- Of two places whose coordinates are multiples of 2 ^ (j + 1), half the sum stands exactly halfway, and its coordinates are multiples of 2 ^ j.
-pub halving-exact : (j : ℕ) (a b : Place) → Multiples (2 ^ (j + 1)) (pointOf a) → Multiples (2 ^ (j + 1)) (pointOf b) →
-    (isHalfway (halfwayOf a b) a b ≡ true) × Multiples (2 ^ j) (pointOf (halfwayOf a b))
-unfolding halfwayOf isHalfway
-halving-exact j a b h k = (
-  three (eqb ((a .x + b .x) / 2 + (a .x + b .x) / 2) (a .x + b .x)) (eqb ((a .y + b .y) / 2 + (a .y + b .y) / 2) (a .y + b .y)) (eqb ((a .z + b .z) / 2 + (a .z + b .z) / 2) (a .z + b .z)) .1
-      (test (a .x) (b .x) (h .x) (k .x), test (a .y) (b .y) (h .y) (k .y), test (a .z) (b .z) (h .z) (k .z)),
-  record {
-    x = half-multiple (2 ^ j) (a .x) (b .x) (twice (h .x)) (twice (k .x));
-    y = half-multiple (2 ^ j) (a .y) (b .y) (twice (h .y)) (twice (k .y));
-    z = half-multiple (2 ^ j) (a .z) (b .z) (twice (h .z)) (twice (k .z));
-  },
-)
-  where
-    twice : {z : ℤ} → Multiple (2 ^ (j + 1)) z → Multiple (2 * 2 ^ j) z
-    twice {z} h = subst (λ (n : ℕ). Multiple n z) (ap (λ (n : ℕ). 2 ^ n) (add-one j) ∙ pow-succ' 2 j) h
-
-    test : (p q : ℕ) → Multiple (2 ^ (j + 1)) (coordinate p) → Multiple (2 ^ (j + 1)) (coordinate q) → eqb ((p + q) / 2 + (p + q) / 2) (p + q) ≡ true
-    test p q h k = eq-eqb ((p + q) / 2 + (p + q) / 2) (p + q) (even (2 ^ j) p q (twice h) (twice k))

@@ -66,10 +66,6 @@ transitive a b c e f = of-before a c (chain (before-of a b e) (before-of b c f))
     chain (higherFirst p q h) (lowerFirst r k) = lowerFirst (omega arith) (omega arith)
     chain (higherFirst p q h) (higherFirst r s k) = higherFirst (omega arith) (omega arith) (omega arith)
 
--- Of two edges at most one ranks before the other.
-pub asymmetric : (a b : Ranked) → ranksBefore a b ≡ true → ranksBefore b a ≡ true → ⊥
-asymmetric a b e f = irreflexive a (transitive a b a e f)
-
 compared : {X : Type 0} (m n : ℕ) → (m < n → X) → (m ≡ n → X) → (n < m → X) → X
 compared m n f g h =
     elim (decLt m n) [ yes l ↦ f l | no k ↦ elim (decLt n m) [ yes l ↦ h l | no l ↦ g (omega arith) ] ]
