@@ -16,7 +16,7 @@ use Rattle.grid.specs.Places.{pointOf}
 use Rattle.grid_lengths.specs.Lengths.{squaredLength}
 use Rattle.check_refusals.specs.Refusals.{faceHas, faceWithin, sameFace, sameEnds, sameMark, twoMarksOn, twoMarks}
 use Rattle.check_meaning.specs.Tests.{Passes, equal, below, not-passes, fails-unless, not-fails, and-passes, and-fails, or-passes, or-fails, all-pass, any-passes}
-use Rattle.check_meaning.specs.Accepted.{OnFace, SameFace, markedEnds}
+use Rattle.check_meaning.specs.Accepted.{OnRecordFace, SameRecordFace, markedEnds}
 use Rattle.check_meaning.specs.Bases.{slots-apart}
 use Rattle.build_marks.specs.Marking.{plainPlace, rankOf, markedPiece}
 use Rattle.build_meaning.specs.Edges.{Different, ends-same}
@@ -38,7 +38,7 @@ face-edge =
 
 -- Every corner of face i of p is one of face j of q.
 abbrev Carries : Piece → ℕ → Piece → ℕ → Type 0
-Carries p i q j = (k : ℕ) → k < 4 → k ≢ i → OnFace q j (cornerAt p k)
+Carries p i q j = (k : ℕ) → k < 4 → k ≢ i → OnRecordFace q j (cornerAt p k)
 
 -- That is what check's test of a face within a face asks.
 within-carries : (p q : Piece) (i j : ℕ) → faceWithin p i q j ≡ true → Carries p i q j
@@ -99,7 +99,7 @@ module _ (coordinates : List ℤ) (p q : Piece) (dp : Different p) (dq : Differe
       s .1 ∙ ap (endsOf q) (first-unique coordinates q dq (λ e. onFace e j) f n first (mark-is-first coordinates q j lj))
 
   -- Two pieces with a common face mark it alike.
-  pub shared-face-one-mark : (i j : ℕ) → i < 4 → j < 4 → SameFace p i q j → markedEnds (markedPiece coordinates p) i ≡ markedEnds (markedPiece coordinates q) j
+  pub shared-face-one-mark : (i j : ℕ) → i < 4 → j < 4 → SameRecordFace p i q j → markedEnds (markedPiece coordinates p) i ≡ markedEnds (markedPiece coordinates q) j
   shared-face-one-mark i j li lj same =
       carried-first i j li lj (λ k l n. same (cornerAt p k) .0 (k, l, n, refl)) (λ k l n. same (cornerAt q k) .1 (k, l, n, refl))
 

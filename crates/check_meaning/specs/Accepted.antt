@@ -141,15 +141,15 @@ RightBaseMarks m = (n : ℕ) → n < baseRecords m → RightMarks (pieceAt m n)
 abbrev pub CornerOf : Piece → ℕ → Type 0
 CornerOf p x = (k : ℕ) × (k < 4) × (cornerAt p k ≡ x)
 
-abbrev pub OnFace : Piece → ℕ → ℕ → Type 0
-OnFace p i x = (k : ℕ) × (k < 4) × (k ≢ i) × (cornerAt p k ≡ x)
+abbrev pub OnRecordFace : Piece → ℕ → ℕ → Type 0
+OnRecordFace p i x = (k : ℕ) × (k < 4) × (k ≢ i) × (cornerAt p k ≡ x)
 
 -- The two pieces have the same four corners; face i of p is face j of q.
-abbrev pub SameCorners : Piece → Piece → Type 0
-SameCorners p q = (x : ℕ) → CornerOf p x ↔ CornerOf q x
+abbrev pub SameRecordCorners : Piece → Piece → Type 0
+SameRecordCorners p q = (x : ℕ) → CornerOf p x ↔ CornerOf q x
 
-abbrev pub SameFace : Piece → ℕ → Piece → ℕ → Type 0
-SameFace p i q j = (x : ℕ) → OnFace p i x ↔ OnFace q j x
+abbrev pub SameRecordFace : Piece → ℕ → Piece → ℕ → Type 0
+SameRecordFace p i q j = (x : ℕ) → OnRecordFace p i x ↔ OnRecordFace q j x
 
 -- The two vertex numbers of the marked edge of face i.
 abbrev pub markedEnds : Piece → ℕ → Ends
@@ -158,12 +158,12 @@ markedEnds p i = endsOf p (mark (shapeOf p) i)
 pub record RightFaces (m : Tables) : Type 0 where
   -- no "face in three base records": not in r, s and n
   pub in-two : (r s n i j k : ℕ) → r < s → s < n → n < baseRecords m → i < 4 → j < 4 → k < 4 →
-      SameFace (pieceAt m r) i (pieceAt m n) k → SameFace (pieceAt m s) j (pieceAt m n) k → ⊥
+      SameRecordFace (pieceAt m r) i (pieceAt m n) k → SameRecordFace (pieceAt m s) j (pieceAt m n) k → ⊥
   -- no "two base records with the same four corners"
-  pub different : (r n : ℕ) → r < n → n < baseRecords m → SameCorners (pieceAt m r) (pieceAt m n) → ⊥
+  pub different : (r n : ℕ) → r < n → n < baseRecords m → SameRecordCorners (pieceAt m r) (pieceAt m n) → ⊥
   -- no "shared face with two marks"
   pub one-mark : (r n i j : ℕ) → r < n → n < baseRecords m → i < 4 → j < 4 →
-      SameFace (pieceAt m r) i (pieceAt m n) j → markedEnds (pieceAt m r) i ≡ markedEnds (pieceAt m n) j
+      SameRecordFace (pieceAt m r) i (pieceAt m n) j → markedEnds (pieceAt m r) i ≡ markedEnds (pieceAt m n) j
 
 -- ---- 8: no "base vertex in no base record"
 

@@ -11,13 +11,13 @@ use Rattle.piece.specs.Ends.{cornerAt}
 use Rattle.mesh_tables.specs.Tables.{Tables, baseVertices, baseRecords, pieceAt}
 use Rattle.check_refusals.specs.Refusals.{hasCorner, faceHas, faceWithin, sameFace, sameEnds, sameMark, cornersWithin, sameCorners, twoMarksOn, twoMarks, hasFace, faceBefore, faceInThree, badTogether, badWith, badFaces, badBaseFaces, unusedVertex, unusedVertices}
 use Rattle.check_meaning.specs.Tests.{Passes, Fails, reads, equal, not-fails, not-passes, fails-unless, and-passes, and-fails, or-passes, or-fails, all-pass, any-passes, none-passes}
-use Rattle.check_meaning.specs.Accepted.{CornerOf, OnFace, SameCorners, SameFace, markedEnds, RightFaces, RightUses}
+use Rattle.check_meaning.specs.Accepted.{CornerOf, OnRecordFace, SameRecordCorners, SameRecordFace, markedEnds, RightFaces, RightUses}
 
 corner-of : (p : Piece) (x : ℕ) → Passes (hasCorner p x) (CornerOf p x)
 unfolding hasCorner
 corner-of p x = any-passes 4 λ k l. equal (cornerAt p k) x
 
-on-face : (p : Piece) (i x : ℕ) → Passes (faceHas p i x) (OnFace p i x)
+on-face : (p : Piece) (i x : ℕ) → Passes (faceHas p i x) (OnRecordFace p i x)
 unfolding faceHas
 on-face p i x =
     reads (any-passes 4 λ k l. and-passes (not-passes (fails-unless (equal k i))) (equal (cornerAt p k) x))
@@ -32,11 +32,11 @@ module _ (p q : Piece) where
       (λ h x c. subst (CornerOf q) (c .2) (h (c .0) (c .1)))
       (λ f k l. f (cornerAt p k) (k, l, refl))
 
-  face-within : (i j : ℕ) → Passes (faceWithin p i q j) ((x : ℕ) → OnFace p i x → OnFace q j x)
+  face-within : (i j : ℕ) → Passes (faceWithin p i q j) ((x : ℕ) → OnRecordFace p i x → OnRecordFace q j x)
   unfolding faceWithin
   face-within i j =
       reads (all-pass 4 λ k l. or-passes (equal k i) (on-face q j (cornerAt p k)))
-      (λ h x c. subst (OnFace q j) (c .3) (⊎-elim (λ e. absurd (c .2 e)) (λ o. o) (h (c .0) (c .1))))
+      (λ h x c. subst (OnRecordFace q j) (c .3) (⊎-elim (λ e. absurd (c .2 e)) (λ o. o) (h (c .0) (c .1))))
       (λ f k l. ⊎-elim (λ t. inl (equal k i .0 t)) (λ g. inr (f (cornerAt p k) (k, l, fails-unless (equal k i) .0 g, refl))) (either (eqb k i)))
 
 -- Two sets of numbers are the same where each is within the other.
@@ -44,11 +44,11 @@ both-within : {a b : Bool} {P Q : ℕ → Type 0} → Passes a ((x : ℕ) → P 
 both-within h k = reads (and-passes h k) (λ r x. (r .0 x, r .1 x)) (λ s. (λ x. s x .0, λ x. s x .1))
 
 module _ (p q : Piece) where
-  same-corners : Passes (sameCorners p q) (SameCorners p q)
+  same-corners : Passes (sameCorners p q) (SameRecordCorners p q)
   unfolding sameCorners
   same-corners = both-within (corners-within p q) (corners-within q p)
 
-  same-face : (i j : ℕ) → Passes (sameFace p i q j) (SameFace p i q j)
+  same-face : (i j : ℕ) → Passes (sameFace p i q j) (SameRecordFace p i q j)
   unfolding sameFace
   same-face i j = both-within (face-within p q i j) (face-within q p j i)
 
@@ -61,18 +61,18 @@ module _ (p q : Piece) where
       (λ h i. record { lower = h .0 i; higher = h .1 i })
       (λ e. (ap (λ (x : Ends). x .lower) e, ap (λ (x : Ends). x .higher) e))
 
-  one-mark : Fails (twoMarks p q) ((i : ℕ) → i < 4 → (j : ℕ) → j < 4 → SameFace p i q j → markedEnds p i ≡ markedEnds q j)
+  one-mark : Fails (twoMarks p q) ((i : ℕ) → i < 4 → (j : ℕ) → j < 4 → SameRecordFace p i q j → markedEnds p i ≡ markedEnds q j)
   unfolding twoMarks twoMarksOn
   one-mark = none-passes 4 λ i l. none-passes 4 λ j k. and-fails (same-face i j) (not-fails (same-mark i j))
 
   -- Some face of p is face k of q.
-  has-face : (k : ℕ) → Passes (hasFace q k p) ((i : ℕ) × (i < 4) × SameFace p i q k)
+  has-face : (k : ℕ) → Passes (hasFace q k p) ((i : ℕ) × (i < 4) × SameRecordFace p i q k)
   unfolding hasFace
   has-face k = any-passes 4 λ i l. same-face i k
 
 module _ (m : Tables) where
   in-two : (q : Piece) (s : ℕ) → Fails (faceInThree (m .recordAt) q s (pieceAt m s))
-      ((k : ℕ) → k < 4 → (j : ℕ) × (j < 4) × SameFace (pieceAt m s) j q k → (r : ℕ) × (r < s) × ((i : ℕ) × (i < 4) × SameFace (pieceAt m r) i q k) → ⊥)
+      ((k : ℕ) → k < 4 → (j : ℕ) × (j < 4) × SameRecordFace (pieceAt m s) j q k → (r : ℕ) × (r < s) × ((i : ℕ) × (i < 4) × SameRecordFace (pieceAt m r) i q k) → ⊥)
   unfolding faceInThree faceBefore
   in-two q s = none-passes 4 λ k l. and-fails (has-face (pieceAt m s) q k) (fails-unless (any-passes s λ r b. has-face (pieceAt m r) q k))
 

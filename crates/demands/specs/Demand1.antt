@@ -30,7 +30,6 @@ use Rattle.check_refusals.specs.declared.Report.{Report}
 use Rattle.check_refusals.specs.Check.{checkNumber, checkOf}
 use Rattle.check_meaning.specs.HangingFirst.{HangingEdge, hanging-first}
 use Rattle.build_service.specs.Build.{plainMesh, buildNumber, buildBytes}
-use Rattle.build_meaning.specs.Written.{Given}
 use Rattle.build_meaning.specs.Output as Build
 use Rattle.refine_service.specs.Refine.{closed, resultOf, refineNumber, refineBytes}
 use Rattle.refine_meaning.specs.Answer as Refine
@@ -141,15 +140,12 @@ pub build-outcome : (job : ℕ) (coordinates : List ℤ) (corners : List ℕ) �
 build-outcome job coordinates corners types room =
     record {
       either = ⊎-elim
-          (λ e. inl (e, built e, built-checked job coordinates corners room e given))
+          (λ e. inl (e, built e, built-checked job coordinates corners room e (given-by-types job coordinates corners types)))
           (λ n. inr (⊎-elim (λ e. absurd (n e)) (λ other. other) (build-number job coordinates corners room), Build.refused-bytes job coordinates corners room n))
           (zero-or-not (buildNumber job coordinates corners room));
       length = Build.output-length job coordinates corners room;
     }
   where
-    given : Given job coordinates corners
-    given = given-by-types job coordinates corners types
-
     built : buildNumber job coordinates corners room ≡ 0 → MeshIn (buildBytes job coordinates corners room) room
     built e =
         record {
@@ -161,7 +157,7 @@ build-outcome job coordinates corners types room =
           bytes = built-bytes job coordinates corners room e;
           as-long = built-as-long job coordinates corners;
           within = built-within job coordinates corners room e;
-          header = built-header job coordinates corners room e given;
+          header = built-header job coordinates corners room e (given-by-types job coordinates corners types);
         }
 
 -- Every two byte strings and every length of the output buffer have one of refine's.

@@ -217,19 +217,19 @@ module _ (t : Tables) (b : BaseMesh) (C : Cuts (b .pieces)) (N : Numbering) (h :
       λ c. let (k, m, e) = c in (k, m, base-corner r l k m ∙ e),
     )
 
-    on-face : (r : ℕ) → r < b .pieces → (i x : ℕ) → Accepted.OnFace (Check.pieceAt t r) i x ↔ Base.OnBaseFace b r i x
+    on-face : (r : ℕ) → r < b .pieces → (i x : ℕ) → Accepted.OnRecordFace (Check.pieceAt t r) i x ↔ Base.OnBaseFace b r i x
     on-face r l i x = (
       λ c. let (k, m, o, e) = c in (k, m, o, sym (base-corner r l k m) ∙ e),
       λ c. let (k, m, o, e) = c in (k, m, o, base-corner r l k m ∙ e),
     )
 
-    same-face : (r i s j : ℕ) → r < b .pieces → s < b .pieces → Accepted.SameFace (Check.pieceAt t r) i (Check.pieceAt t s) j → Base.SameBaseFace b r i s j
+    same-face : (r i s j : ℕ) → r < b .pieces → s < b .pieces → Accepted.SameRecordFace (Check.pieceAt t r) i (Check.pieceAt t s) j → Base.SameBaseFace b r i s j
     same-face r i s j lr ls f x = (
       λ o. on-face s ls j x .0 (f x .0 (on-face r lr i x .1 o)),
       λ o. on-face r lr i x .0 (f x .1 (on-face s ls j x .1 o)),
     )
 
-    same-corners : (r s : ℕ) → r < b .pieces → s < b .pieces → Accepted.SameCorners (Check.pieceAt t r) (Check.pieceAt t s) → Base.SameBaseCorners b r s
+    same-corners : (r s : ℕ) → r < b .pieces → s < b .pieces → Accepted.SameRecordCorners (Check.pieceAt t r) (Check.pieceAt t s) → Base.SameBaseCorners b r s
     same-corners r s lr ls f x = (
       λ o. corner-of s ls x .0 (f x .0 (corner-of r lr x .1 o)),
       λ o. corner-of r lr x .0 (f x .1 (corner-of s ls x .1 o)),

@@ -18,7 +18,7 @@ use Rattle.piece_cut.specs.Cut.{childOf, cutOf}
 use Rattle.mesh_tables.specs.Tables as Check
 use Rattle.mesh_tables.specs.Tables.{baseRecords, allRecords, pieceAt, refinementEnds}
 use Rattle.check_meaning.specs.Accepted as Accepted
-use Rattle.check_meaning.specs.Accepted.{RightMesh, RightCut, HasParents, SameFace, firstChild}
+use Rattle.check_meaning.specs.Accepted.{RightMesh, RightCut, HasParents, SameRecordFace, firstChild}
 use Rattle.check_meaning.specs.Bases.{marks-valid}
 use Rattle.check_meaning.specs.Cuts.{Four, is-cut}
 use Rattle.check_meaning.specs.Descent.{lower-is-end, higher-is-end, child-corner}
@@ -40,7 +40,7 @@ pub ends-pair : (p q : Piece) (e f : ℕ) → endsOf p e ≡ endsOf q f → Same
 ends-pair p q e f h = pair-through (ends-are p e .0) (rw h (ends-are q f .0))
 
 -- A piece with different corners has no face twice.
-face-once : (p : Piece) → Different p → (i j : ℕ) → i < 4 → SameFace p i p j → i ≡ j
+face-once : (p : Piece) → Different p → (i j : ℕ) → i < 4 → SameRecordFace p i p j → i ≡ j
 face-once p different i j l same =
     ⊎-elim (eqb-true i j)
     (λ f. let (k, b, o, e) = same (cornerAt p i) .1 (i, l, eqb-false i j f, refl) in absurd (o (different k i b l e)))
@@ -123,20 +123,20 @@ accepted-lawful m a four =
           (n, l, is-cut m n .1 c, midpoint m v n it h);
     }
   where
-    ordered : (r s : ℕ) → r < s → s < baseRecords m → (i j : ℕ) → i < 4 → j < 4 → SameFace (pieceAt m r) i (pieceAt m s) j → SameEdge (link m) r (mark (shapeOf (pieceAt m r)) i) s (mark (shapeOf (pieceAt m s)) j)
+    ordered : (r s : ℕ) → r < s → s < baseRecords m → (i j : ℕ) → i < 4 → j < 4 → SameRecordFace (pieceAt m r) i (pieceAt m s) j → SameEdge (link m) r (mark (shapeOf (pieceAt m r)) i) s (mark (shapeOf (pieceAt m s)) j)
     ordered r s l hs i j hi hj same =
         ends-pair (pieceAt m r) (pieceAt m s) (mark (shapeOf (pieceAt m r)) i) (mark (shapeOf (pieceAt m s)) j) (a .faces .one-mark r s i j l hs hi hj same)
 
-    alone : (r : ℕ) → r < baseRecords m → (i j : ℕ) → i < 4 → SameFace (pieceAt m r) i (pieceAt m r) j → SameEdge (link m) r (mark (shapeOf (pieceAt m r)) i) r (mark (shapeOf (pieceAt m r)) j)
+    alone : (r : ℕ) → r < baseRecords m → (i j : ℕ) → i < 4 → SameRecordFace (pieceAt m r) i (pieceAt m r) j → SameEdge (link m) r (mark (shapeOf (pieceAt m r)) i) r (mark (shapeOf (pieceAt m r)) j)
     alone r h i j hi same =
         let e : i ≡ j = face-once (pieceAt m r) (a .base-records r h .different) i j hi same in
         subst (λ (k : ℕ). SameEdge (link m) r (mark (shapeOf (pieceAt m r)) i) r (mark (shapeOf (pieceAt m r)) k)) e (inl (refl, refl))
 
-    shared : (r s : ℕ) → r < baseRecords m → s < baseRecords m → (i j : ℕ) → i < 4 → j < 4 → SameFace (pieceAt m r) i (pieceAt m s) j → SameEdge (link m) r (mark (shapeOf (pieceAt m r)) i) s (mark (shapeOf (pieceAt m s)) j)
+    shared : (r s : ℕ) → r < baseRecords m → s < baseRecords m → (i j : ℕ) → i < 4 → j < 4 → SameRecordFace (pieceAt m r) i (pieceAt m s) j → SameEdge (link m) r (mark (shapeOf (pieceAt m r)) i) s (mark (shapeOf (pieceAt m s)) j)
     shared r s hr hs i j hi hj same =
         ⊎-elim (λ l. ordered r s l hs i j hi hj same)
         (⊎-elim
         (λ e.
-        subst (λ (n : ℕ). SameFace (pieceAt m n) i (pieceAt m s) j → SameEdge (link m) n (mark (shapeOf (pieceAt m n)) i) s (mark (shapeOf (pieceAt m s)) j)) e (alone s hs i j hi) same)
+        subst (λ (n : ℕ). SameRecordFace (pieceAt m n) i (pieceAt m s) j → SameEdge (link m) n (mark (shapeOf (pieceAt m n)) i) s (mark (shapeOf (pieceAt m s)) j)) e (alone s hs i j hi) same)
         (λ l. pair-turned (ordered s r l hr j i hj hi (λ x. (same x .1, same x .0)))))
         (which-first r s)

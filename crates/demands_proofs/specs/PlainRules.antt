@@ -94,16 +94,16 @@ module _ (b : BaseMesh) where
   corner-of : (p : Piece) (r : ℕ) → Agrees p r → (x : ℕ) → Accepted.CornerOf p x ↔ BaseCornerOf b r x
   corner-of p r a x = (λ c. let (k, l, e) = c in (k, l, sym (a k l) ∙ e), λ c. let (k, l, e) = c in (k, l, a k l ∙ e))
 
-  on-face : (p : Piece) (r i : ℕ) → Agrees p r → (x : ℕ) → Accepted.OnFace p i x ↔ OnBaseFace b r i x
+  on-face : (p : Piece) (r i : ℕ) → Agrees p r → (x : ℕ) → Accepted.OnRecordFace p i x ↔ OnBaseFace b r i x
   on-face p r i a x = (λ c. let (k, l, n, e) = c in (k, l, n, sym (a k l) ∙ e), λ c. let (k, l, n, e) = c in (k, l, n, a k l ∙ e))
 
-  pub same-corners : (p q : Piece) (r s : ℕ) → Agrees p r → Agrees q s → Accepted.SameCorners p q ↔ SameBaseCorners b r s
+  pub same-corners : (p q : Piece) (r s : ℕ) → Agrees p r → Agrees q s → Accepted.SameRecordCorners p q ↔ SameBaseCorners b r s
   same-corners p q r s a c = (
     λ h x. (λ t. corner-of q s c x .0 (h x .0 (corner-of p r a x .1 t)), λ t. corner-of p r a x .0 (h x .1 (corner-of q s c x .1 t))),
     λ h x. (λ t. corner-of q s c x .1 (h x .0 (corner-of p r a x .0 t)), λ t. corner-of p r a x .1 (h x .1 (corner-of q s c x .0 t))),
   )
 
-  pub same-face : (p q : Piece) (r i s j : ℕ) → Agrees p r → Agrees q s → Accepted.SameFace p i q j ↔ SameBaseFace b r i s j
+  pub same-face : (p q : Piece) (r i s j : ℕ) → Agrees p r → Agrees q s → Accepted.SameRecordFace p i q j ↔ SameBaseFace b r i s j
   same-face p q r i s j a c = (
     λ h x. (λ t. on-face q s j c x .0 (h x .0 (on-face p r i a x .1 t)), λ t. on-face p r i a x .0 (h x .1 (on-face q s j c x .1 t))),
     λ h x. (λ t. on-face q s j c x .1 (h x .0 (on-face p r i a x .0 t)), λ t. on-face p r i a x .1 (h x .1 (on-face q s j c x .0 t))),

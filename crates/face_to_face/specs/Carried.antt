@@ -9,7 +9,7 @@ use Rattle.piece_edges.specs.Edges.{lowSlot, highSlot, slots-small}
 use Rattle.piece.specs.Shape.{Shape, shapeOf, mark}
 use Rattle.piece.specs.Ends.{cornerAt}
 use Rattle.mesh_tables.specs.Tables.{Tables, tablesOf, allVertices, baseRecords, allRecords, pieceAt}
-use Rattle.check_meaning.specs.Accepted.{OnFace, SameFace, markedEnds, Leaf, RightFaces, NoneHangs, Accepted}
+use Rattle.check_meaning.specs.Accepted.{OnRecordFace, SameRecordFace, markedEnds, Leaf, RightFaces, NoneHangs, Accepted}
 use Rattle.check_meaning.specs.Cuts.{is-leaf, rule10-holds, stored-four}
 use Rattle.build_meaning.specs.Edges.{ends-same}
 use Rattle.cuts_names.specs.Names.{Name, mid, mid-injective, mid-not-base}
@@ -78,24 +78,24 @@ module _ (m : Tables) (l : Lawful (link m)) where
   -- ---- faces
 
   -- What holds of the numbers of a face's corners holds of their names.
-  on-named : (r i s j : ℕ) → ((x : ℕ) → OnFace (pieceAt m r) i x → OnFace (pieceAt m s) j x) → (x : Name) → Named.OnFace (base r) i x → Named.OnFace (base s) j x
+  on-named : (r i s j : ℕ) → ((x : ℕ) → OnRecordFace (pieceAt m r) i x → OnRecordFace (pieceAt m s) j x) → (x : Name) → Named.OnFace (base r) i x → Named.OnFace (base s) j x
   on-named r i s j f x (k, b, o, e) = let (n, c, o′, d) = f (cornerAt (pieceAt m r) k) (k, b, o, refl) in (n, c, o′, ap name d ∙ e)
 
-  face-named : (r i s j : ℕ) → SameFace (pieceAt m r) i (pieceAt m s) j → Named.SameFace (base r) i (base s) j
+  face-named : (r i s j : ℕ) → SameRecordFace (pieceAt m r) i (pieceAt m s) j → Named.SameFace (base r) i (base s) j
   face-named r i s j f x = (on-named r i s j (λ y. f y .0) x, on-named s j r i (λ y. f y .1) x)
 
   -- What holds of their names holds of their numbers.
-  on-numbered : (r i s j : ℕ) → r < allRecords m → s < allRecords m → ((x : Name) → Named.OnFace (base r) i x → Named.OnFace (base s) j x) → (x : ℕ) → OnFace (pieceAt m r) i x → OnFace (pieceAt m s) j x
+  on-numbered : (r i s j : ℕ) → r < allRecords m → s < allRecords m → ((x : Name) → Named.OnFace (base r) i x → Named.OnFace (base s) j x) → (x : ℕ) → OnRecordFace (pieceAt m r) i x → OnRecordFace (pieceAt m s) j x
   on-numbered r i s j hr hs f x (k, b, o, e) = let (n, c, o′, d) = f (name (cornerAt (pieceAt m r) k)) (k, b, o, refl) in (n, c, o′, one-number s r hs hr n k c b d ∙ e)
 
-  face-numbered : (r i s j : ℕ) → r < allRecords m → s < allRecords m → Named.SameFace (base r) i (base s) j → SameFace (pieceAt m r) i (pieceAt m s) j
+  face-numbered : (r i s j : ℕ) → r < allRecords m → s < allRecords m → Named.SameFace (base r) i (base s) j → SameRecordFace (pieceAt m r) i (pieceAt m s) j
   face-numbered r i s j hr hs f x = (on-numbered r i s j hr hs (λ y. f y .0) x, on-numbered s j r i hs hr (λ y. f y .1) x)
 
   -- Two records have a face in common just where their nodes have.
-  face-nodes : (r i s j : ℕ) → r < allRecords m → s < allRecords m → SameFace (pieceAt m r) i (pieceAt m s) j → Named.SameFace (atNode r) i (atNode s) j
+  face-nodes : (r i s j : ℕ) → r < allRecords m → s < allRecords m → SameRecordFace (pieceAt m r) i (pieceAt m s) j → Named.SameFace (atNode r) i (atNode s) j
   face-nodes r i s j hr hs f = face-alike (linked (link m) l r hr .piece) (linked (link m) l s hs .piece) i j (face-named r i s j f)
 
-  face-records : (r i s j : ℕ) → r < allRecords m → s < allRecords m → Named.SameFace (atNode r) i (atNode s) j → SameFace (pieceAt m r) i (pieceAt m s) j
+  face-records : (r i s j : ℕ) → r < allRecords m → s < allRecords m → Named.SameFace (atNode r) i (atNode s) j → SameRecordFace (pieceAt m r) i (pieceAt m s) j
   face-records r i s j hr hs f = face-numbered r i s j hr hs (face-alike (alike-back (linked (link m) l r hr .piece)) (alike-back (linked (link m) l s hs .piece)) i j f)
 
   -- ---- the marked edge of a face
@@ -148,15 +148,15 @@ module _ (m : Tables) (l : Lawful (link m)) where
   module _ (f : RightFaces m) where
     -- No three base records, in the order of their numbers, have face i of record r.
     not-in-three : (r i p q n g h k : ℕ) → p < q → q < n → n < baseRecords m → g < 4 → h < 4 → k < 4 →
-        SameFace (pieceAt m r) i (pieceAt m p) g → SameFace (pieceAt m r) i (pieceAt m q) h → SameFace (pieceAt m r) i (pieceAt m n) k → ⊥
+        SameRecordFace (pieceAt m r) i (pieceAt m p) g → SameRecordFace (pieceAt m r) i (pieceAt m q) h → SameRecordFace (pieceAt m r) i (pieceAt m n) k → ⊥
     not-in-three r i p q n g h k pq qn there bg bh bk a b c =
         f .in-two p q n g h k pq qn there bg bh bk (λ x. (λ y. c x .0 (a x .1 y), λ y. a x .0 (c x .1 y))) (λ x. (λ y. c x .0 (b x .1 y), λ y. b x .0 (c x .1 y)))
 
     -- So of three that have it, whatever their order, two are one record.
     in-two : (r s n : ℕ) → r < baseRecords m → s < baseRecords m → n < baseRecords m → (i j k : ℕ) → i < 4 → j < 4 → k < 4 →
-        SameFace (pieceAt m r) i (pieceAt m s) j → SameFace (pieceAt m r) i (pieceAt m n) k → (r ≡ s) ⊎ ((r ≡ n) ⊎ (s ≡ n))
+        SameRecordFace (pieceAt m r) i (pieceAt m s) j → SameRecordFace (pieceAt m r) i (pieceAt m n) k → (r ≡ s) ⊎ ((r ≡ n) ⊎ (s ≡ n))
     in-two r s n hr hs hn i j k bi bj bk a b =
-        let own : SameFace (pieceAt m r) i (pieceAt m r) i = λ x. (λ y. y, λ y. y) in
+        let own : SameRecordFace (pieceAt m r) i (pieceAt m r) i = λ x. (λ y. y, λ y. y) in
         ⊎-elim
         (λ rs.
         ⊎-elim

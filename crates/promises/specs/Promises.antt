@@ -1,5 +1,5 @@
--- What the user asked of each C function's answer, for every input: the demands with no hypothesis left. The words are those of `demands/specs/Words` and of
--- the demands' pages.
+-- What the user asked of each C function's answer, for every input: the demands with no hypothesis left. The words are those of `demands_words/specs/Words` and
+-- of the demands' pages.
 use mathlib.Core.Path.{_≡_, sym, _∙_, subst, subst₂}
 use mathlib.Core.Logic.{_↔_, _≢_}
 use mathlib.Core.List.{List}
@@ -12,7 +12,7 @@ use Rattle.check_refusals.specs.declared.Report.{Report}
 use Rattle.mesh_tables.specs.Tables.{tablesOf}
 use Rattle.check_refusals.specs.Check.{CheckOutcomeIs}
 use Rattle.check_refusals.specs.Rows.{report-number}
-use Rattle.build_service.specs.Build.{BuildOutcomeIs}
+use Rattle.build_service.specs.Build.{plainBytes, BuildOutcomeIs}
 use Rattle.refine_service.specs.Refine.{RefineOutcomeIs}
 use Rattle.list_service.specs.declared.Listed.{Listed}
 use Rattle.list_service.specs.Listing.{ListOutcomeIs}
@@ -57,6 +57,7 @@ pub record BuildPromise (job : ℕ) (coordinates : List ℤ) (corners : List ℕ
   -- demand 2
   pub exactly : (number ≡ 0) ↔ BuildAccepts coordinates corners room
   pub stores : number ≡ 0 → BuiltMesh job coordinates corners out room
+  pub marking : number ≡ 0 → out ≡ zeroPast room (plainBytes job coordinates corners)
   -- request thirteen
   pub meets : number ≡ 0 → Meets out room
 
@@ -68,6 +69,7 @@ build-promised job coordinates corners room number out types is =
       outcome = build-outcome job coordinates corners types room;
       exactly = demand-2 .build-accepts job coordinates corners types room;
       stores = demand-2 .build-stores job coordinates corners types room;
+      marking = demand-2 .marking job coordinates corners types room;
       meets = built-meets job coordinates corners types room;
     })
 
