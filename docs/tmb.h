@@ -1,5 +1,8 @@
 /*
  * The C functions of libstation.a, which `rt staticlib station` writes to target/staticlib.
+ *
+ * None of them keeps anything between calls or asks for memory: what a call works with stands on its
+ * stack, of which it takes less than 256 KiB.
  */
 #ifndef TMB_H
 #define TMB_H
