@@ -5,6 +5,7 @@ use stored::Limits;
 ghost use mathlib.Core.Path.{_≡_};
 ghost use mathlib.Core.Bool.{false};
 ghost use lib.ListN.{length, replicate};
+ghost use Rattle.laws.specs.Links.{Empty};
 ghost use Rattle.stored.specs.Layout.{limits, assembled};
 ghost use Rattle.mesh_tables.specs.Tables.{tables};
 ghost use Rattle.check_refusals.specs.Refusals.{wrongCounts};
@@ -113,6 +114,8 @@ fn judged_with<'a>(
     uses: &mut [u16],
 ) -> u32
     requires { ⌜ LentToBase h (length (now heads)) (length (now «face_heads»)) (length (now links)) (length (now uses)) ⌝ }
+    requires { ⌜ Empty (now heads) ⌝ }
+    requires { ⌜ Empty (now «face_heads») ⌝ }
     ensures { λ r. ⌜ r ≡ judgedNumber (tables h l (now (base .entry)) (now (grown .entry))) ⌝ }
 {
     if check_places::bad_vertices(h, l, base, grown, heads, links) {

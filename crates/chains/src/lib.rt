@@ -1,8 +1,7 @@
 // Links and counts that are kept beside a table. Nothing is asked of the slices: past the end an entry reads as 0, and nothing is written there.
 ghost use mathlib.Core.Path.{_≡_};
-ghost use Prim.Native.Nat.{_%_};
 ghost use lib.ListN.{length, getD, replicate};
-ghost use Rattle.laws.specs.Links.{linksOf, pushed, linkAt, countedAt, short};
+ghost use Rattle.laws.specs.Links.{linksOf, pushed, linkAt, countedAt, keyAmong, short};
 
 // How many keys the tables of versions 1 and 2 have: for their vertices, and for the faces of their base records.
 pub const KEYS: usize = 8192;
@@ -36,20 +35,24 @@ pub fn is_short(heads: &[u16], nexts: &[u16], n: usize) -> bool
     (GREATEST as usize) < n
 }
 
-// The key of x, one of so many. By a number that is known beforehand the remainder takes less time.
+// The key of x, one of so many.
 pub fn key(x: usize, keys: usize) -> usize
-    ensures { λ r. ⌜ r ≡ x % keys ⌝ }
+    ensures { λ r. ⌜ r ≡ keyAmong keys x ⌝ }
 {
-    if keys == KEYS {
-        return x % KEYS;
-    }
-    if keys == FACE_KEYS {
-        return x % FACE_KEYS;
-    }
     if keys == 0 {
-        return x;
+        return 0;
     }
-    x % keys
+    x & (keys - 1)
+}
+
+// Where the links of x's key begin.
+pub fn first(heads: &[u16], x: usize) -> usize
+    ensures { λ r. ⌜ r ≡ getD (now (heads .entry)) (keyAmong (length (now (heads .entry))) x) 0 ⌝ }
+{
+    if heads.len() == 0 {
+        return 0;
+    }
+    heads[x & (heads.len() - 1)] as usize
 }
 
 // The number v is put before the others with key k, where there is room.

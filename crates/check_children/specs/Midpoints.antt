@@ -12,9 +12,10 @@ use borrow.Author.Tests.{eq-eqb, ne-eqb, lt-ltb}
 use Rattle.laws.specs.Below.{anyBelow, any-same, any-is, any-first, first-where, either}
 use Rattle.laws.specs.Links.{countedAt, counted-long}
 use Rattle.piece.specs.declared.Ends.{Ends}
+use Rattle.stored.specs.Layout.{parentsOf}
 use Rattle.mesh_tables.specs.Tables.{Tables, baseVertices, allVertices, allRecords, pieceAt, isLeaf, isCut, hasParents, vertexWith, refinementEnds}
 use Rattle.check_refusals.specs.Refusals.{isMidpointOf, noMidpoint}
-use Rattle.mesh_parents.specs.Pairs.{parentEnds, parents-are}
+use Rattle.mesh_parents.specs.Pairs.{parents-are}
 use Rattle.laws.specs.Counts.{countsBelow, marked, counted-marked, Marking, counts-zero}
 
 -- One more at the vertex halfway on record n's refinement edge, if the record is cut.
@@ -45,7 +46,7 @@ midpointsIn m room = countsBelow (midpointCounted m) (replicate room 0) (allReco
 -- A made vertex, and the first that has its parents.
 module _ (m : Tables) (v : ℕ) (made : leb (baseVertices m) v ≡ true) (within : v < allVertices m) where
   own : Ends
-  own = parentEnds (m .vertexAt v)
+  own = parentsOf (m .vertexAt v)
 
   has-own : hasParents m own v ≡ true
   unfolding hasParents own
@@ -65,7 +66,7 @@ module _ (m : Tables) (v : ℕ) (made : leb (baseVertices m) v ≡ true) (within
   same-ends : (ends : Ends) → vertexWith m own ≡ vertexWith m ends → own ≡ ends
   same-ends ends q =
       sym (parents-are m own (vertexWith m own) (first-has own first-within))
-      ∙ ap (λ (u : ℕ). parentEnds (m .vertexAt u)) q
+      ∙ ap (λ (u : ℕ). parentsOf (m .vertexAt u)) q
       ∙ parents-are m ends (vertexWith m ends) (first-has ends (rw (← q) first-within))
 
   -- So v has a pair as its parents exactly if the first vertex with the pair is the first with v's own.
@@ -89,7 +90,7 @@ module _ (m : Tables) (v : ℕ) (made : leb (baseVertices m) v ≡ true) (within
 
 -- By the table: a made vertex whose parents' first vertex has not been counted.
 unfoldable pub noMidpointBy : Tables → List ℕ → ℕ → Bool
-noMidpointBy m midpoints v = leb (baseVertices m) v && eqb (getD midpoints (vertexWith m (parentEnds (m .vertexAt v))) 0) 0
+noMidpointBy m midpoints v = leb (baseVertices m) v && eqb (getD midpoints (vertexWith m (parentsOf (m .vertexAt v))) 0) 0
 
 no-midpoint-is : (m : Tables) (room v : ℕ) → allVertices m ≤ room → v < allVertices m → noMidpointBy m (midpointsIn m room) v ≡ noMidpoint m v
 unfolding noMidpointBy noMidpoint own

@@ -250,11 +250,7 @@ fn no_midpoint<'a>(
     if v < h.base_vertices as usize {
         return false;
     }
-    let parents = stored_entries::parents_in(l, base, grown, v);
-    let ends = Ends {
-        lower: parents.p,
-        higher: parents.q,
-    };
+    let ends = stored_entries::parents_in(l, base, grown, v);
     let w = vertex_with(h, l, base, grown, heads, nexts, ends);
     chains::at(midpoints, w) == 0
 }

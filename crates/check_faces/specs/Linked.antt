@@ -4,13 +4,12 @@ use mathlib.Core.Bool.{Bool, true, false}
 use mathlib.Core.Logic.{⊎-elim}
 use mathlib.Core.List.{List, [], _∷_}
 use Prim.Native.Nat.{ℕ, zero, suc, _+_, _*_, _/_, _%_, _≤_, _<_}
-use native.Mathlib.Nat.{mod-lt}
 use native.Mathlib.Omega.{arith}
 use lib.Dec.{ltb}
 use borrow.Author.Tests.{le-ltb}
-use lib.ListN.{length, getD, replicate, length-replicate}
+use lib.ListN.{length, getD}
 use Rattle.laws.specs.Below.{anyBelow, any-same, and-left, and-right, either}
-use Rattle.laws.specs.Links.{greatest, Links, linksOf, pushed, zeros-at, chain-start, Roomy, Kept, kept-next, anyAlong, linkAt, any-gap, chain-any, chain-any-on}
+use Rattle.laws.specs.Links.{greatest, keyAmong, key-within, Empty, Links, linksOf, pushed, zeros-at, chain-start, Kept, kept-next, anyAlong, linkAt, any-gap, chain-any, chain-any-on}
 use Rattle.piece.specs.declared.Piece.{Piece}
 use Rattle.stored.specs.declared.Record.{Record}
 use Rattle.check_refusals.specs.Refusals.{badFaces}
@@ -21,7 +20,7 @@ use Rattle.check_faces.specs.Faces.{isFace, isBefore, badFace, by-faces}
 
 -- The key of a face, one of so many.
 unfoldable pub faceKey : ℕ → Face → ℕ
-faceKey keys face = cornerSum face % keys
+faceKey keys face = keyAmong keys (cornerSum face)
 
 -- The keys of the faces of a piece with these corners.
 abbrev pub keysOf : ℕ → List ℕ → List ℕ
@@ -34,6 +33,14 @@ key-at keys p (suc zero) l = refl
 key-at keys p (suc (suc zero)) l = refl
 key-at keys p (suc (suc (suc zero))) l = refl
 key-at keys p (suc (suc (suc (suc i)))) l = absurd (omega arith)
+
+-- Each is one of so many.
+abbrev pub KeysWithin : List ℕ → ℕ → Type 0
+KeysWithin own keys = (i : ℕ) → i < 4 → getD own i 0 < keys
+
+pub keys-within : (keys : ℕ) (p : List ℕ) → 0 < keys → KeysWithin (keysOf keys p) keys
+unfolding faceKey
+keys-within keys p some i l = rw (key-at keys p i l) (key-within keys (cornerSum (faceOf p i)) some)
 
 -- A record before r has this face, as far as the links from m on lead.
 unfoldable pub beforeAlong : (ℕ → Record) → List ℕ → ℕ → Face → ℕ → Bool
@@ -70,16 +77,10 @@ keyAt keys recordAt f = faceKey keys (faceOf (recordAt (f / 4) .piece .corners) 
 abbrev pub Linked : (ℕ → Record) → ℕ → ℕ → ℕ → Links → Type 0
 Linked recordAt keys room c links = Kept (keyAt keys recordAt) keys room c links
 
--- Heads that have been cleared are as many as they were.
-pub cleared-roomy : (heads cleared nexts : List ℕ) (n : ℕ) → cleared ≡ replicate (length heads) 0 → Roomy heads nexts n → Roomy cleared nexts n
-cleared-roomy heads cleared nexts n is room =
-    let long = ap length is ∙ length-replicate {A = ℕ} (length heads) 0 in
-    record { keys = rw long (room .keys); places = room .places; fits = room .fits }
-
--- They hold no face yet.
-pub none-linked : (recordAt : ℕ → Record) (heads cleared nexts : List ℕ) → cleared ≡ replicate (length heads) 0 → Linked recordAt (length cleared) (length nexts) 0 (linksOf cleared nexts)
-none-linked recordAt heads cleared nexts is =
-    record { chain = chain-start (keyAt (length cleared) recordAt) cleared nexts (λ k. rw is (zeros-at (length heads) k)); heads-long = refl; nexts-long = refl }
+-- Empty heads hold no face yet.
+pub none-linked : (recordAt : ℕ → Record) (heads nexts : List ℕ) → Empty heads → Linked recordAt (length heads) (length nexts) 0 (linksOf heads nexts)
+none-linked recordAt heads nexts empty =
+    record { chain = chain-start (keyAt (length heads) recordAt) heads nexts (λ k. rw empty (zeros-at (length heads) k)); heads-long = refl; nexts-long = refl }
 
 module _ (recordAt : ℕ → Record) (keys room : ℕ) where
   -- ---- one record more
@@ -122,7 +123,7 @@ module _ (recordAt : ℕ → Record) (keys room : ℕ) where
     -- Its key is one of the heads'.
     within : faceKey keys Sought < length (links .heads)
     unfolding faceKey
-    within = rw (on .heads-long) (mod-lt (cornerSum Sought) some)
+    within = rw (on .heads-long) (key-within keys (cornerSum Sought) some)
 
     -- Faces that are the same have one key.
     one-key : (f : ℕ) → isFace recordAt Sought f ≡ true → keyAt keys recordAt f ≡ faceKey keys Sought

@@ -8,32 +8,36 @@ use stored::Header;
 use stored::Layout;
 ghost use mathlib.Core.Path.{_≡_};
 ghost use mathlib.Core.Bool.{_||_};
-ghost use Prim.Native.Nat.{_+_, _*_, _≤_};
+ghost use Prim.Native.Nat.{_+_, _*_, _≤_, _<_};
 ghost use lib.ListN.{length};
 ghost use Rattle.laws.specs.Below.{anyBelow};
-ghost use Rattle.laws.specs.Links.{greatest, linksOf, short, Roomy};
+ghost use Rattle.laws.specs.Links.{greatest, linksOf, pushed, short, Roomy, Empty};
 ghost use Rattle.stored.specs.Layout.{recordIn};
 ghost use Rattle.mesh_tables.specs.Tables.{tables};
 ghost use Rattle.check_refusals.specs.Refusals.{badFaces, badBaseFaces};
+ghost use Rattle.check_shared.specs.Faces.{faceOf};
 ghost use Rattle.check_faces.specs.Faces.{isFace, isBefore, badFace};
-ghost use Rattle.check_faces.specs.Linked.{keysOf, beforeAlong, beforeFrom, badAlong, badLinked, pushedFaces, Linked};
+ghost use Rattle.check_faces.specs.Linked.{faceKey, keysOf, KeysWithin, beforeAlong, beforeFrom, badAlong, badLinked, pushedFaces, Linked};
 
 // How many faces the base records may have.
 pub const FACES: usize = 4 * stored::RECORDS;
 
-// The keys of a piece's four faces. The sums come first, so that the four ask one after the other how many keys there are, which is then asked once.
+// The key of face i of a piece with these corners, one of so many.
+fn face_key(keys: usize, p: [u32; 4], i: u8) -> usize
+    ensures { λ r. ⌜ r ≡ faceKey keys (faceOf p i) ⌝ }
+{
+    chains::key(check_shared::corner_sum(check_shared::face_of(p, i)), keys)
+}
+
+// The keys of its four faces.
 fn keys_of(keys: usize, p: [u32; 4]) -> [usize; 4]
     ensures { λ r. ⌜ r ≡ keysOf keys p ⌝ }
 {
-    let first = check_shared::corner_sum(check_shared::face_of(p, 0));
-    let second = check_shared::corner_sum(check_shared::face_of(p, 1));
-    let third = check_shared::corner_sum(check_shared::face_of(p, 2));
-    let fourth = check_shared::corner_sum(check_shared::face_of(p, 3));
     [
-        chains::key(first, keys),
-        chains::key(second, keys),
-        chains::key(third, keys),
-        chains::key(fourth, keys),
+        face_key(keys, p, 0),
+        face_key(keys, p, 1),
+        face_key(keys, p, 2),
+        face_key(keys, p, 3),
     ]
 }
 
@@ -158,16 +162,29 @@ fn bad_linked<'a>(
     false
 }
 
-// The faces of record n are put before the others with their keys.
+// The number f is put before the others with key k; there is room for it.
+fn put(heads: &mut [u16], nexts: &mut [u16], k: usize, f: usize)
+    requires { ⌜ k < length (now heads) ⌝ }
+    requires { ⌜ f < length (now nexts) ⌝ }
+    requires { ⌜ f < greatest ⌝ }
+    ensures { λ _. ⌜ linksOf (now (heads .exit)) (now (nexts .exit)) ≡ pushed (linksOf (now (heads .entry)) (now (nexts .entry))) k f ⌝ }
+{
+    nexts[f] = heads[k];
+    heads[k] = (f + 1) as u16;
+}
+
+// The faces of record n are put before the others with their keys; there is room for them.
 fn push_faces(heads: &mut [u16], nexts: &mut [u16], own: [usize; 4], n: usize)
+    requires { ⌜ KeysWithin own (length (now heads)) ⌝ }
+    requires { ⌜ 4 * (n + 1) ≤ length (now nexts) ⌝ }
     requires { ⌜ 4 * (n + 1) ≤ greatest ⌝ }
     ensures { λ _. ⌜ linksOf (now (heads .exit)) (now (nexts .exit)) ≡ pushedFaces (linksOf (now (heads .entry)) (now (nexts .entry))) own n ⌝ }
 {
     let f = 4 * n;
-    chains::push(heads, nexts, own[0], f);
-    chains::push(heads, nexts, own[1], f + 1);
-    chains::push(heads, nexts, own[2], f + 2);
-    chains::push(heads, nexts, own[3], f + 3);
+    put(heads, nexts, own[0], f);
+    put(heads, nexts, own[1], f + 1);
+    put(heads, nexts, own[2], f + 2);
+    put(heads, nexts, own[3], f + 3);
 }
 
 // Whether record n is bad with one before it; then its faces are linked too.
@@ -179,7 +196,7 @@ fn bad_record<'a>(
     nexts: &mut [u16],
     n: usize,
 ) -> bool
-    requires { ⌜ 4 * (n + 1) ≤ greatest ⌝ }
+    requires { ⌜ Roomy (now heads) (now nexts) (4 * (n + 1)) ⌝ }
     ensures { λ b. ⌜ b ≡ badLinked (recordIn l (now (base .entry)) (now (grown .entry))) (now (heads .entry)) (now (nexts .entry)) (recordIn l (now (base .entry)) (now (grown .entry)) n .piece) (keysOf (length (now (heads .entry))) (recordIn l (now (base .entry)) (now (grown .entry)) n .piece .corners)) ⌝ }
     ensures { λ _. ⌜ linksOf (now (heads .exit)) (now (nexts .exit)) ≡ pushedFaces (linksOf (now (heads .entry)) (now (nexts .entry))) (keysOf (length (now (heads .entry))) (recordIn l (now (base .entry)) (now (grown .entry)) n .piece .corners)) n ⌝ }
 {
@@ -201,9 +218,8 @@ fn bad_below<'a>(
     nexts: &mut [u16],
     count: usize,
 ) -> bool
-    requires { ⌜ Linked (recordIn l (now base) (now grown)) (length (now heads)) (length (now nexts)) 0 (linksOf (now heads) (now nexts)) ⌝ }
     requires { ⌜ Roomy (now heads) (now nexts) (4 * count) ⌝ }
-    ensures { λ b. ⌜ b ≡ anyBelow count (badFaces (recordIn l (now (base .entry)) (now (grown .entry)))) ⌝ }
+    ensures { λ b. ⌜ (Empty (now (heads .entry)) → b ≡ anyBelow count (badFaces (recordIn l (now (base .entry)) (now (grown .entry))))) ⌝ }
 {
     let mut n: usize = 0;
     while n < count {
@@ -215,7 +231,8 @@ fn bad_below<'a>(
     false
 }
 
-// In links that are empty at first, whatever stood in the lists. Lists that are too short for the faces are answered at once.
+// Lists that are too short for the faces are answered at once. The heads are to be lent as they were made: to clear as many once more takes as long as all rules
+// on a small mesh.
 pub fn bad_base_faces<'a>(
     h: Header,
     l: Layout,
@@ -224,12 +241,11 @@ pub fn bad_base_faces<'a>(
     heads: &mut [u16],
     nexts: &mut [u16],
 ) -> bool
-    ensures { λ b. ⌜ b ≡ (short (now (heads .entry)) (now (nexts .entry)) (4 * h .«base_records») || badBaseFaces (tables h l (now (base .entry)) (now (grown .entry)))) ⌝ }
+    ensures { λ b. ⌜ (Empty (now (heads .entry)) → b ≡ (short (now (heads .entry)) (now (nexts .entry)) (4 * h .«base_records») || badBaseFaces (tables h l (now (base .entry)) (now (grown .entry))))) ⌝ }
 {
     let count = h.base_records as usize;
     if chains::is_short(heads, nexts, 4 * count) {
         return true;
     }
-    chains::clear(heads);
     bad_below(l, base, grown, heads, nexts, count)
 }

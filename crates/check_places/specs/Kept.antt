@@ -1,33 +1,34 @@
 -- Refusal 4's links: base vertices are kept by their places and made ones by their parents, in one chain, so that only those with one key are looked at.
-use mathlib.Core.Path.{_≡_, _∙_}
+use mathlib.Core.Path.{_≡_}
 use mathlib.Core.Bool.{Bool, true, cond, _&&_}
 use mathlib.Core.List.{List}
 use Prim.Native.Nat.{ℕ, _+_, _*_, _/_, _%_, _<_}
-use native.Mathlib.Nat.{mod-lt, le-refl}
+use native.Mathlib.Nat.{le-refl}
 use native.Mathlib.Numerals.{add-one}
 use native.Mathlib.Omega.{arith}
 use lib.ListN.{length, getD}
 use lib.Dec.{eqb, ltb, leb}
 use borrow.Author.Tests.{eqb-true, leb-true, lt-ltb, le-ltb}
 use Rattle.laws.specs.Below.{and-left, and-right}
-use Rattle.laws.specs.Links.{greatest, Chain, linksOf, pushed, pushed-heads-long, pushed-nexts-long, chain-pushed, chain-any, anyAlong}
+use Rattle.laws.specs.Links.{greatest, keyAmong, key-within, Chain, linksOf, pushed, pushed-heads-long, chain-pushed, chain-start, zeros-at, Empty, chain-any, anyAlong}
 use Rattle.piece.specs.declared.Ends.{Ends}
 use Rattle.grid.specs.declared.Place.{Place}
 use Rattle.grid.specs.Places.{samePlace}
 use Rattle.stored.specs.declared.Vertex.{Vertex}
+use Rattle.stored.specs.Layout.{parentsOf}
 use Rattle.mesh_tables.specs.Tables.{Tables, baseVertices, hasParents}
 use Rattle.check_refusals.specs.Refusals.{placeTwice, pairTwice}
-use Rattle.mesh_parents.specs.Pairs.{pairKey, parentEnds, parents-are, any-with-is}
+use Rattle.mesh_parents.specs.Pairs.{pairKey, parents-are, any-with-is}
 
 -- The key of a place, one of so many: modulo a prime first, so that places that are far apart on the grid have keys of their own too.
 unfoldable pub placeKey : ℕ → Place → ℕ
-placeKey keys p = (p .x / 32 * 37 + p .y / 32 * 101 + p .z / 32 * 3) % 8191 % keys
+placeKey keys p = keyAmong keys ((p .x / 32 * 37 + p .y / 32 * 101 + p .z / 32 * 3) % 8191)
 
 -- The key of vertex v: that of its place, and of its parents if it is made.
 unfoldable pub vertexKey : ℕ → Tables → ℕ → ℕ
 vertexKey keys m v =
     let placed = placeKey keys (m .vertexAt v .place) in
-    let made = pairKey keys (parentEnds (m .vertexAt v)) in
+    let made = pairKey keys (parentsOf (m .vertexAt v)) in
     cond (ltb v (baseVertices m)) placed made
 
 -- What stands at one place has one key.
@@ -54,17 +55,19 @@ pub record VerticesKept (m : Tables) (v : ℕ) (heads nexts : List ℕ) : Type 0
   pub chain : Chain (vertexKey (length heads) m) v heads nexts
   pub keys : 0 < length heads
 
--- Of one vertex more, in lists as long as they were.
+-- In empty heads, of none.
+pub none-kept : (m : Tables) (heads nexts : List ℕ) → 0 < length heads → Empty heads → VerticesKept m 0 heads nexts
+none-kept m heads nexts some empty = record { chain = chain-start (vertexKey (length heads) m) heads nexts (λ k. rw empty (zeros-at (length heads) k)); keys = some }
+
+-- Of one vertex more.
 pub vertex-kept : (m : Tables) (v : ℕ) (heads nexts heads′ nexts′ : List ℕ) → VerticesKept m v heads nexts → v < length nexts → v < greatest →
     heads′ ≡ pushed (linksOf heads nexts) (vertexKey (length heads) m v) v .heads → nexts′ ≡ pushed (linksOf heads nexts) (vertexKey (length heads) m v) v .nexts →
-    VerticesKept m (v + 1) heads′ nexts′ × (length nexts′ ≡ length nexts)
+    VerticesKept m (v + 1) heads′ nexts′
 vertex-kept m v heads nexts heads′ nexts′ k room small h t =
     let links = linksOf heads nexts in
     let key = vertexKey (length heads) m in
-    let long : length heads′ ≡ length heads = rw h (pushed-heads-long links (key v) v) in (
-      record { chain = rw (long, add-one v, h, t) (chain-pushed key v links (k .chain) room small); keys = rw long (k .keys) },
-      rw t (pushed-nexts-long links (key v) v),
-    )
+    let long : length heads′ ≡ length heads = rw h (pushed-heads-long links (key v) v) in
+    record { chain = rw (long, add-one v, h, t) (chain-pushed key v links (k .chain) room small); keys = rw long (k .keys) }
 
 -- ---- what is found there
 
@@ -82,15 +85,15 @@ place-twice m v heads nexts k inBase =
     place = m .vertexAt v .place
 
     within : placeKey (length heads) place < length heads
-    within = mod-lt ((place .x / 32 * 37 + place .y / 32 * 101 + place .z / 32 * 3) % 8191) (k .keys)
+    within = key-within (length heads) ((place .x / 32 * 37 + place .y / 32 * 101 + place .z / 32 * 3) % 8191) (k .keys)
 
     only : (u : ℕ) → u < v → samePlace (m .vertexAt u .place) place ≡ true → vertexKey (length heads) m u ≡ placeKey (length heads) place
     only u l t = rw (lt-ltb u (baseVertices m) (omega arith)) (same-key (length heads) (m .vertexAt u .place) place t)
 
 -- A vertex before v has v's parents, or none.
 pub pair-twice : (m : Tables) (v : ℕ) (heads nexts : List ℕ) → VerticesKept m v heads nexts →
-    anyAlong nexts (λ u. ltb u v && hasParents m (parentEnds (m .vertexAt v)) u) (getD heads (pairKey (length heads) (parentEnds (m .vertexAt v))) 0) ≡ pairTwice m v
+    anyAlong nexts (λ u. ltb u v && hasParents m (parentsOf (m .vertexAt v)) u) (getD heads (pairKey (length heads) (parentsOf (m .vertexAt v))) 0) ≡ pairTwice m v
 unfolding pairTwice
 pair-twice m v heads nexts k =
-    let ends = parentEnds (m .vertexAt v) in
+    let ends = parentsOf (m .vertexAt v) in
     any-with-is m (vertexKey (length heads) m) v heads nexts (k .chain) (k .keys) ends (λ u t. has-key (length heads) m ends u t) v (le-refl v)

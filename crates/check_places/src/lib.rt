@@ -1,14 +1,13 @@
 // Refusal 4: vertices off the grid, out of place or with a parent pair used twice. Base vertices are linked by their places and made ones by their
 // parents, in one chain, each after it was judged, so that of those before it only the ones with its key are looked at.
 use grid::Place;
-use piece::Ends;
 use stored::Header;
 use stored::Layout;
 use stored::Vertex;
 ghost use mathlib.Core.Path.{_≡_};
 ghost use mathlib.Core.Bool.{_||_};
 ghost use lib.ListN.{length};
-ghost use Rattle.laws.specs.Links.{linksOf, pushed, short, Roomy};
+ghost use Rattle.laws.specs.Links.{linksOf, pushed, short, Roomy, Empty};
 ghost use Rattle.grid.specs.Places.{samePlace};
 ghost use Rattle.stored.specs.Layout.{vertexIn};
 ghost use Rattle.mesh_tables.specs.Tables.{tables};
@@ -98,14 +97,9 @@ fn pair_twice<'a>(
     nexts: &'a [u16],
     v: usize,
 ) -> bool
-    requires { ⌜ VerticesKept (tables h l (now base) (now grown)) v (now heads) (now nexts) ⌝ }
-    ensures { λ r. ⌜ r ≡ pairTwice (tables h l (now (base .entry)) (now (grown .entry))) v ⌝ }
+    ensures { λ r. ⌜ (VerticesKept (tables h l (now (base .entry)) (now (grown .entry))) v (now (heads .entry)) (now (nexts .entry)) → r ≡ pairTwice (tables h l (now (base .entry)) (now (grown .entry))) v) ⌝ }
 {
-    let parents = stored_entries::parents_in(l, base, grown, v);
-    let ends = Ends {
-        lower: parents.p,
-        higher: parents.q,
-    };
+    let ends = stored_entries::parents_in(l, base, grown, v);
     let head = mesh_parents::head_of(heads, ends);
     mesh_parents::any_from(h, l, base, grown, nexts, v, ends, head)
 }
@@ -120,8 +114,7 @@ fn bad_vertex<'a>(
     nexts: &'a [u16],
     v: usize,
 ) -> bool
-    requires { ⌜ VerticesKept (tables h l (now base) (now grown)) v (now heads) (now nexts) ⌝ }
-    ensures { λ r. ⌜ r ≡ badVertex (tables h l (now (base .entry)) (now (grown .entry))) v ⌝ }
+    ensures { λ r. ⌜ (VerticesKept (tables h l (now (base .entry)) (now (grown .entry))) v (now (heads .entry)) (now (nexts .entry)) → r ≡ badVertex (tables h l (now (base .entry)) (now (grown .entry))) v) ⌝ }
 {
     if v < h.base_vertices as usize {
         let vertex = stored_entries::vertex_in(l, base, grown, v);
@@ -151,14 +144,7 @@ fn vertex_key<'a>(
     if v < h.base_vertices as usize {
         return place_key(keys, stored_entries::place_in(l, base, grown, v));
     }
-    let parents = stored_entries::parents_in(l, base, grown, v);
-    mesh_parents::pair_key(
-        keys,
-        Ends {
-            lower: parents.p,
-            higher: parents.q,
-        },
-    )
+    mesh_parents::pair_key(keys, stored_entries::parents_in(l, base, grown, v))
 }
 
 // Vertex v is put before the others with its key.
@@ -187,9 +173,8 @@ fn any_bad<'a>(
     heads: &mut [u16],
     nexts: &mut [u16],
 ) -> bool
-    requires { ⌜ VerticesKept (tables h l (now base) (now grown)) 0 (now heads) (now nexts) ⌝ }
     requires { ⌜ Roomy (now heads) (now nexts) (h .vertices) ⌝ }
-    ensures { λ r. ⌜ r ≡ badVertices (tables h l (now (base .entry)) (now (grown .entry))) ⌝ }
+    ensures { λ r. ⌜ (Empty (now (heads .entry)) → r ≡ badVertices (tables h l (now (base .entry)) (now (grown .entry)))) ⌝ }
 {
     let count = h.vertices as usize;
     let mut v: usize = 0;
@@ -203,7 +188,7 @@ fn any_bad<'a>(
     false
 }
 
-// The links are lent; lists that are too short for them refuse.
+// The links are lent, and the heads are to be lent as they were made; lists that are too short for them refuse.
 pub fn bad_vertices<'a>(
     h: Header,
     l: Layout,
@@ -212,11 +197,10 @@ pub fn bad_vertices<'a>(
     heads: &mut [u16],
     nexts: &mut [u16],
 ) -> bool
-    ensures { λ r. ⌜ r ≡ (short (now (heads .entry)) (now (nexts .entry)) (h .vertices) || badVertices (tables h l (now (base .entry)) (now (grown .entry)))) ⌝ }
+    ensures { λ r. ⌜ (Empty (now (heads .entry)) → r ≡ (short (now (heads .entry)) (now (nexts .entry)) (h .vertices) || badVertices (tables h l (now (base .entry)) (now (grown .entry))))) ⌝ }
 {
     if chains::is_short(heads, nexts, h.vertices as usize) {
         return true;
     }
-    chains::clear(heads);
     any_bad(h, l, base, grown, heads, nexts)
 }

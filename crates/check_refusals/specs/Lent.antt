@@ -1,11 +1,11 @@
 -- What a service lends to the rules: lists of these lengths, which have room for a mesh with this header.
-use mathlib.Core.Path.{_≡_}
+use mathlib.Core.Path.{_≡_, sym, ap}
 use mathlib.Core.Bool.{false}
 use mathlib.Core.List.{List}
 use Prim.Native.Nat.{ℕ, _*_, _≤_, _<_}
 use native.Mathlib.Omega.{arith}
-use lib.ListN.{length}
-use Rattle.laws.specs.Links.{greatest, short, not-short}
+use lib.ListN.{length, replicate, length-replicate}
+use Rattle.laws.specs.Links.{greatest, short, not-short, Empty}
 use Rattle.stored.specs.declared.Header.{Header}
 use Rattle.stored.specs.Layout.{limits}
 use Rattle.check_refusals.specs.Bounded.{Bounded}
@@ -19,6 +19,10 @@ pub record LinksFit (keys places n : ℕ) : Type 0 where
 -- Such lists are not too short.
 pub fit-not-short : (heads nexts : List ℕ) (keys places n : ℕ) → length heads ≡ keys → length nexts ≡ places → LinksFit keys places n → short heads nexts n ≡ false
 fit-not-short heads nexts keys places n h t f = not-short heads nexts n (record { keys = rw h (f .some); places = rw t (f .enough); fits = f .fits })
+
+-- Heads that were just made are empty.
+pub just-made : (n : ℕ) → Empty (replicate n 0)
+just-made n = sym (ap (λ (k : ℕ). replicate k 0) (length-replicate {A = ℕ} n 0))
 
 -- To the rules on the base: links of the vertices and of the base records' faces, and a count for each base vertex.
 pub record LentToBase (h : Header) (heads faceHeads links uses : ℕ) : Type 0 where

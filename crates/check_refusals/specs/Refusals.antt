@@ -16,7 +16,7 @@ use Rattle.stored.specs.declared.Limits.{Limits}
 use Rattle.stored.specs.declared.Header.{Header}
 use Rattle.stored.specs.declared.Vertex.{Vertex}
 use Rattle.stored.specs.declared.Record.{Record}
-use Rattle.stored.specs.Layout.{none, rightLength, rightMark}
+use Rattle.stored.specs.Layout.{none, parentsOf, rightLength, rightMark}
 use Rattle.mesh_tables.specs.Tables.{Tables, baseVertices, allVertices, baseRecords, allRecords, pieceAt, uncut, isCut, hasParents, vertexWith, refinementEnds, sixfoldAt}
 
 -- ---- 1: "under 20 bytes, or length is not 20 + 10·vertices + 17·records"
@@ -60,7 +60,7 @@ badMadeVertex vertexAt v =
 
 -- "a parent pair used twice": by made vertex v and one before it
 unfoldable pub pairTwice : Tables → ℕ → Bool
-pairTwice m v = anyBelow v (hasParents m (record { lower = m .vertexAt v .p; higher = m .vertexAt v .q }))
+pairTwice m v = anyBelow v (hasParents m (parentsOf (m .vertexAt v)))
 
 unfoldable pub badVertex : Tables → ℕ → Bool
 badVertex m v =

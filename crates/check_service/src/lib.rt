@@ -6,6 +6,7 @@ use stored::Layout;
 use stored::Limits;
 ghost use mathlib.Core.Path.{_≡_};
 ghost use lib.ListN.{length};
+ghost use Rattle.laws.specs.Links.{Empty};
 ghost use Rattle.mesh_tables.specs.Tables.{tables};
 ghost use Rattle.check_refusals.specs.Refusals.{wrongCounts};
 ghost use Rattle.check_refusals.specs.Check.{refusedWith, accepted, CheckOutcomeIs};
@@ -95,6 +96,8 @@ fn judged_base<'a>(
     uses: &mut [u16],
 ) -> u64
     requires { ⌜ LentToBase h (length (now heads)) (length (now «face_heads»)) (length (now links)) (length (now uses)) ⌝ }
+    requires { ⌜ Empty (now heads) ⌝ }
+    requires { ⌜ Empty (now «face_heads») ⌝ }
     ensures { λ r. ⌜ r ≡ baseNumber (tables h l (now (base .entry)) (now (grown .entry))) ⌝ }
 {
     if check_places::bad_vertices(h, l, base, grown, heads, links) {
@@ -148,6 +151,8 @@ fn judged_with<'a>(
     children: &mut [u16],
 ) -> Report
     requires { ⌜ LentToBase h (length (now heads)) (length (now «face_heads»)) (length (now links)) (length (now uses)) ⌝ }
+    requires { ⌜ Empty (now heads) ⌝ }
+    requires { ⌜ Empty (now «face_heads») ⌝ }
     requires { ⌜ LentToCuts h (length (now heads)) (length (now links)) (length (now children)) (length (now uses)) ⌝ }
     ensures { λ r. ⌜ r ≡ judgedReport (tables h l (now (base .entry)) (now (grown .entry))) ⌝ }
 {

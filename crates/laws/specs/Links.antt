@@ -11,6 +11,7 @@ use native.Mathlib.Omega.{arith}
 use lib.ListN.{length, getD, set, replicate, length-set, length-replicate, getD-replicate, List·getD-eq-default}
 use lib.Seq.{getD-set-same, getD-set-other}
 use lib.Dec.{eqb, leb, ltb}
+use lib.Bits.{bitAnd, and-le-r}
 use borrow.Author.Tests.{eqb-true, eqb-false, ne-eqb, le-leb, leb-true, ltb-true, ltb-false, lt-ltb, le-ltb}
 use Rattle.laws.specs.Below.{anyBelow, any-none, any-suc, any-fails, any-fails-at, any-is, any-where, firstBelow, first-no, first-is, first-where, bit, and-false, or-left-false, or-right-false, either}
 
@@ -336,7 +337,22 @@ module _ (key : ℕ → ℕ) (n : ℕ) (links : Links) (c : Chain key n (links .
       rw (pushed-past links (key n) n past) (left-out past))
       (either (ltb (key n) (length (links .heads))))
 
+-- ---- keys
+
+-- The key of x, one of so many: the bits that x has in common with the last key's number. Where the number of keys is a power of two, that is the remainder.
+unfoldable pub keyAmong : ℕ → ℕ → ℕ
+keyAmong keys x = bitAnd x (keys - 1)
+
+-- It is one of them, where there are some.
+pub key-within : (keys x : ℕ) → 0 < keys → keyAmong keys x < keys
+unfolding keyAmong
+key-within keys x some = let low = and-le-r x (keys - 1) in omega (arith, low)
+
 -- ---- room for links
+
+-- Heads of links of no number.
+abbrev pub Empty : List ℕ → Type 0
+Empty heads = heads ≡ replicate (length heads) 0
 
 -- Lists that are lent for the links of n numbers are too short: there is no key, there is no place for some of the numbers, or a number does not fit an entry.
 unfoldable pub short : List ℕ → List ℕ → ℕ → Bool
@@ -374,15 +390,6 @@ pub record Kept (key : ℕ → ℕ) (keys room n : ℕ) (links : Links) : Type 0
   pub chain : Chain key n (links .heads) (links .nexts)
   pub heads-long : length (links .heads) ≡ keys
   pub nexts-long : length (links .nexts) ≡ room
-
--- Of none.
-pub kept-none : (key : ℕ → ℕ) (keys room : ℕ) → Kept key keys room 0 (linksOf (replicate keys 0) (replicate room 0))
-kept-none key keys room =
-    record {
-      chain = chain-start key (replicate keys 0) (replicate room 0) (zeros-at keys);
-      heads-long = length-replicate {A = ℕ} keys 0;
-      nexts-long = length-replicate {A = ℕ} room 0;
-    }
 
 -- Of one number more.
 pub kept-next : (key : ℕ → ℕ) (keys room n next k : ℕ) (links : Links) → Kept key keys room n links → n < room → n < greatest → next ≡ suc n → k ≡ key n → Kept key keys room next (pushed links k n)

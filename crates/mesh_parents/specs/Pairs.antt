@@ -2,28 +2,27 @@
 use mathlib.Core.Path.{_≡_, ap, _∙_}
 use mathlib.Core.Bool.{Bool, true, cond, _&&_}
 use mathlib.Core.List.{List}
-use Prim.Native.Nat.{ℕ, suc, _+_, _*_, _%_, _≤_, _<_}
-use native.Mathlib.Nat.{mod-lt}
+use Prim.Native.Nat.{ℕ, suc, _+_, _*_, _≤_, _<_}
 use lib.ListN.{length, getD, replicate, length-replicate}
 use lib.Dec.{eqb, leb, ltb}
 use borrow.Author.Tests.{eqb-true, leb-true, lt-ltb, le-ltb}
 use Rattle.laws.specs.Below.{anyBelow, any-same, and-left, and-right}
-use Rattle.laws.specs.Links.{greatest, Roomy, Chain, Links, linksOf, zeros-at, pushed, linkedBelow, linked-none, linked-suc, linked-heads-long, linked-nexts-long, chain-same, chain-linked, chain-any, chain-first, any-gap, anyAlong, firstAlong}
+use Rattle.laws.specs.Links.{greatest, keyAmong, key-within, Roomy, Chain, Links, linksOf, zeros-at, pushed, linkedBelow, linked-none, linked-suc, linked-heads-long, linked-nexts-long, chain-same, chain-linked, chain-any, chain-first, any-gap, anyAlong, firstAlong}
 use Rattle.piece.specs.declared.Ends.{Ends}
-use Rattle.stored.specs.declared.Vertex.{Vertex}
+use Rattle.stored.specs.Layout.{parentsOf}
 use Rattle.mesh_tables.specs.Tables.{Tables, baseVertices, allVertices, hasParents, vertexWith}
 
--- The key of a pair of vertices, one of so many.
-unfoldable pub pairKey : ℕ → Ends → ℕ
-pairKey keys ends = (ends .lower * 31 + ends .higher) % keys
+-- The number whose key a pair of vertices has.
+unfoldable pub pairSum : Ends → ℕ
+pairSum ends = ends .lower * 31 + ends .higher
 
--- The parents of a vertex, as the ends of an edge.
-abbrev pub parentEnds : Vertex → Ends
-parentEnds v = record { lower = v .p; higher = v .q }
+-- That key, one of so many.
+unfoldable pub pairKey : ℕ → Ends → ℕ
+pairKey keys ends = keyAmong keys (pairSum ends)
 
 -- The key of vertex v: that of its parents, and none if it is a base vertex.
 unfoldable pub keyOf : ℕ → Tables → ℕ → ℕ
-keyOf keys m v = let key = pairKey keys (parentEnds (m .vertexAt v)) in cond (ltb v (baseVertices m)) keys key
+keyOf keys m v = let key = pairKey keys (parentsOf (m .vertexAt v)) in cond (ltb v (baseVertices m)) keys key
 
 -- The links of the vertices below n, with as many keys as there are heads.
 unfoldable pub pairLinks : Tables → Links → ℕ → Links
@@ -58,10 +57,10 @@ module _ (m : Tables) (start : Links) where
 -- A pair's key is one of the heads', where there are some.
 pub pair-key-within : (keys : ℕ) (ends : Ends) → 0 < keys → pairKey keys ends < keys
 unfolding pairKey
-pair-key-within keys ends some = mod-lt (ends .lower * 31 + ends .higher) some
+pair-key-within keys ends some = key-within keys (pairSum ends) some
 
 -- The parents of a vertex that has a pair as its parents.
-pub parents-are : (m : Tables) (ends : Ends) (v : ℕ) → hasParents m ends v ≡ true → parentEnds (m .vertexAt v) ≡ ends
+pub parents-are : (m : Tables) (ends : Ends) (v : ℕ) → hasParents m ends v ≡ true → parentsOf (m .vertexAt v) ≡ ends
 unfolding hasParents
 parents-are m ends v t =
     let made = leb (baseVertices m) v in

@@ -9,7 +9,7 @@ ghost use lib.Dec.{ltb};
 ghost use lib.ListN.{length, getD};
 ghost use Rattle.laws.specs.Links.{linksOf, pushed, anyAlong, firstAlong};
 ghost use Rattle.mesh_tables.specs.Tables.{tables, hasParents};
-ghost use Rattle.mesh_parents.specs.Pairs.{pairKey, keyOf, pairLinks, cleared};
+ghost use Rattle.mesh_parents.specs.Pairs.{pairSum, pairKey, keyOf, pairLinks, cleared};
 
 // Whether vertex v is made and has these parents.
 pub fn has_parents<'a>(
@@ -26,17 +26,24 @@ pub fn has_parents<'a>(
         return false;
     }
     let parents = stored_entries::parents_in(l, base, grown, v);
-    if parents.p != ends.lower {
+    if parents.lower != ends.lower {
         return false;
     }
-    parents.q == ends.higher
+    parents.higher == ends.higher
 }
 
-// The key of a pair, one of so many. The factor moves pairs of one sum apart, and is odd, so that modulo a power of two the lower end counts in full.
+// The number whose key a pair has. The factor moves pairs of one sum apart, and is odd, so that modulo a power of two the lower end counts in full.
+fn pair_sum(ends: Ends) -> usize
+    ensures { λ r. ⌜ r ≡ pairSum ends ⌝ }
+{
+    ends.lower as usize * 31 + ends.higher as usize
+}
+
+// The key of a pair, one of so many.
 pub fn pair_key(keys: usize, ends: Ends) -> usize
     ensures { λ r. ⌜ r ≡ pairKey keys ends ⌝ }
 {
-    chains::key(ends.lower as usize * 31 + ends.higher as usize, keys)
+    chains::key(pair_sum(ends), keys)
 }
 
 // The key of vertex v: past the heads if it is a base vertex.
@@ -53,14 +60,7 @@ fn vertex_key<'a>(
     if v < h.base_vertices as usize {
         return keys;
     }
-    let parents = stored_entries::parents_in(l, base, grown, v);
-    pair_key(
-        keys,
-        Ends {
-            lower: parents.p,
-            higher: parents.q,
-        },
-    )
+    pair_key(keys, stored_entries::parents_in(l, base, grown, v))
 }
 
 // Vertex v is put before the others with its key.
@@ -162,7 +162,7 @@ pub fn any_from<'a>(
 pub fn head_of(heads: &[u16], ends: Ends) -> usize
     ensures { λ r. ⌜ r ≡ getD (now (heads .entry)) (pairKey (length (now (heads .entry))) ends) 0 ⌝ }
 {
-    chains::at(heads, pair_key(heads.len(), ends))
+    chains::first(heads, pair_sum(ends))
 }
 
 // Vertex u if it has these parents, and else what was found before.

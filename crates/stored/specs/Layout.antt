@@ -9,6 +9,7 @@ use lib.Dec.{leb, ltb, eqb}
 use Rattle.laws.specs.Below.{listBelow}
 use Rattle.laws.specs.Lists.{joined}
 use Rattle.laws.specs.Numbers.{number, numberBytes}
+use Rattle.piece.specs.declared.Ends.{Ends}
 use Rattle.grid.specs.Places.{shift}
 use Rattle.stored.specs.declared.Limits.{Limits}
 use Rattle.stored.specs.declared.Format.{Format}
@@ -16,7 +17,6 @@ use Rattle.stored.specs.declared.Table.{Table}
 use Rattle.stored.specs.declared.Layout.{Layout}
 use Rattle.stored.specs.declared.Header.{Header}
 use Rattle.stored.specs.declared.Vertex.{Vertex}
-use Rattle.stored.specs.declared.Parents.{Parents}
 use Rattle.stored.specs.declared.Record.{Record}
 use Rattle.stored.specs.declared.Selection.{Selection}
 
@@ -182,9 +182,9 @@ vertexBytes v =
     ++ u16Bytes (storedOrNone (v .p))
     ++ u16Bytes (storedOrNone (v .q))
 
--- A vertex's parents.
-abbrev pub parentsOf : Vertex → Parents
-parentsOf v = record { p = v .p; q = v .q }
+-- A vertex's parents, as the ends of an edge.
+abbrev pub parentsOf : Vertex → Ends
+parentsOf v = record { lower = v .p; higher = v .q }
 
 -- ---- "Record, 17 bytes: four corners (u16), refinement edge (u8), marks of faces 0 to 3 (u8 each), flag, generation, number of the
 -- first child (u16; 65,535 if uncut)."

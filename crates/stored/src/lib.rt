@@ -96,11 +96,6 @@ pub struct Vertex {
     pub q: u32,
 }
 
-pub struct Parents {
-    pub p: u32,
-    pub q: u32,
-}
-
 pub struct Record {
     pub piece: Piece,
     pub first_child: u32,

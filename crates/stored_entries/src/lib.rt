@@ -1,8 +1,8 @@
 // The vertices and records of a mesh's tables, read one by one: whole, or one field alone.
 use grid::Place;
+use piece::Ends;
 use piece::Piece;
 use stored::Layout;
-use stored::Parents;
 use stored::Record;
 use stored::Table;
 use stored::Vertex;
@@ -169,13 +169,13 @@ pub fn place_in<'a>(l: Layout, base: &'a [u8], grown: &'a [u8], i: usize) -> Pla
 }
 
 // A vertex's parents alone, for searches.
-pub fn parents_in<'a>(l: Layout, base: &'a [u8], grown: &'a [u8], i: usize) -> Parents
+pub fn parents_in<'a>(l: Layout, base: &'a [u8], grown: &'a [u8], i: usize) -> Ends
     ensures { λ r. ⌜ r ≡ parentsOf (vertexIn l (now (base .entry)) (now (grown .entry)) i) ⌝ }
 {
     let entry = vertex_held(l, base, grown, i);
-    Parents {
-        p: number_or_none(entry, 6),
-        q: number_or_none(entry, 8),
+    Ends {
+        lower: number_or_none(entry, 6),
+        higher: number_or_none(entry, 8),
     }
 }
 

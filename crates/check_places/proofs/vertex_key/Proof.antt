@@ -3,7 +3,6 @@
 use borrow.Author.Needs.{needs}
 use mathlib.Core.Path.{_∙_, ap}
 use borrow.Author.Tests.{lt-ltb, le-ltb}
-use Rattle.stored.specs.declared.Parents.{Parents}
 use Rattle.mesh_parents.specs.Pairs.{pairKey}
 use Rattle.check_places.specs.Kept.{vertexKey}
 use Rattle.check_places.proofs.vertex_key.Statement.{statement}
@@ -17,7 +16,7 @@ returns-2 : tie.Need-returns-2
 unfolding vertexKey
 returns-2 c =
     rw (le-ltb _ _ (c .before .before .if1 .left))
-    (c .pair-key .ensures ∙ ap (λ (x : Parents). pairKey (c .before .before .before .before .before .before .args .keys) (record { lower = x .p; higher = x .q })) (c .before .parents-in .ensures))
+    (c .pair-key .ensures ∙ ap (pairKey (c .before .before .before .before .before .before .args .keys)) (c .before .parents-in .ensures))
 
 pub vertex-key-spec : {M : Type 1} → statement M
 vertex-key-spec = tie.close (tie.spec (λ c. search needs) (λ c κs. search needs) (λ c κs. search needs) returns (λ c κs. search needs) (λ c κs. search needs) returns-2)

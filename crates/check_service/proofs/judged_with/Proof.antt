@@ -7,7 +7,7 @@ use Rattle.check_service.proofs.judged_with.Statement.{statement}
 use Rattle.check_service.proofs.judged_with.Tie as tie
 
 judged-base-requires : tie.Need-judged-base-requires
-judged-base-requires c κs = c .before .before .before .before .before .before .before .before .before .before .before .pre .0
+judged-base-requires c κs = (c .before .before .before .before .before .before .before .before .before .before .before .pre .0, (c .before .before .before .before .before .before .before .before .before .before .before .pre .1 .0, c .before .before .before .before .before .before .before .before .before .before .before .pre .1 .1 .0))
 
 returns : tie.Need-returns
 unfolding judgedReport
@@ -16,7 +16,7 @@ returns c = rw (← c .before .before .before .before .before .before .before .b
 judged-cuts-requires : tie.Need-judged-cuts-requires
 judged-cuts-requires c κs =
     let kept = c .before .before .before .before .before .before .before .before .before .before .before .before .before .judged-base .kept in
-    rw (kept .1 .1 .1 .1 .0, kept .1 .1 .1 .1 .1 .1 .0, kept .1 .1 .1 .1 .1 .1 .1 .0) (c .before .before .before .before .before .before .before .before .before .before .before .before .before .before .before .before .before .before .before .before .before .before .before .before .before .pre .1)
+    rw (kept .1 .1 .1 .1 .0, kept .1 .1 .1 .1 .1 .1 .0, kept .1 .1 .1 .1 .1 .1 .1 .0) (c .before .before .before .before .before .before .before .before .before .before .before .before .before .before .before .before .before .before .before .before .before .before .before .before .before .pre .1 .1 .1)
 
 returns-2 : tie.Need-returns-2
 unfolding judgedReport
