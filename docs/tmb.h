@@ -104,6 +104,30 @@ uint32_t tmb_refine(const uint8_t *mesh, size_t mesh_length, const uint8_t *sele
                     size_t selection_length, uint8_t *out, size_t room);
 
 /*
+ * Take-back takes a stored mesh, the mesh_length bytes at mesh, and a request, the request_length
+ * bytes at request, both only read, and writes the mesh without the cuts that are taken back. The
+ * request names cut records in the selection's layout. A made vertex is taken away exactly when every
+ * record cut at it has two leaves as children and all those records are named, and with it go both
+ * children of each of them; named records that don't meet this stay cut. Records and vertices that
+ * remain close up in their order. Every two byte strings get an answer. It gives back the number
+ * alone, 0 on acceptance; else the first rule broken, in this order, names the refusal:
+ *
+ *    0  accepted
+ *    1 to 10, of the mesh: what check gives for it, in the words above
+ *   11 to 15, of the request: what refine gives for a selection, in the words above
+ *   30  a named record that is uncut
+ *   18  the round is 65,535
+ *   20  the output buffer is shorter than the result
+ *
+ * The result has 20 + 10 * vertices + 17 * records bytes, at most mesh_length; its round is one
+ * higher, also where nothing is taken back. All room bytes at out are written: after acceptance the
+ * buffer is zero past the result, after a refusal it is zero throughout. It overlaps neither input. No
+ * pointer is NULL, also where its length is 0.
+ */
+uint32_t tmb_take_back(const uint8_t *mesh, size_t mesh_length, const uint8_t *request,
+                       size_t request_length, uint8_t *out, size_t room);
+
+/*
  * What list gives back.
  *
  * number is 0 where an accepted mesh is listed; else

@@ -1,5 +1,6 @@
 //! The commands: arguments and files in, what a service answers out.
 
+use crate::cuts;
 use crate::explained;
 use crate::files::{self, shown};
 use crate::help;
@@ -12,22 +13,57 @@ use std::str::FromStr;
 
 /// Carries out one command.
 pub fn run(arguments: &[OsString]) -> Result<(), Ending> {
-    let Some((name, rest)) = arguments.split_first() else {
+    let Some((name, rest)) = command(arguments) else {
         return Err(Ending::Wrong(format!("no command\n{}", help::usage())));
     };
     match (name.to_str().unwrap_or(""), rest) {
         ("help" | "--help" | "-h", []) => print(help::overview()),
         ("--version", []) => print(concat!("tmb ", env!("CARGO_PKG_VERSION"), "\n")),
         (_, [asked]) if asked == "--help" || asked == "-h" => print(help::page(name)?),
-        ("help", [about]) => print(help::page(about)?),
+        ("help", about) => match command(about) {
+            Some((about, [])) => print(help::page(about)?),
+            _ => Err(help::wrong_arguments(name)),
+        },
         ("build", [job, plain, out]) => build(job, plain, out),
         ("check", [mesh]) => check(mesh),
         ("select", [mesh, out, numbers @ ..]) => select(mesh, out, numbers),
-        ("refine", [mesh, selection, out]) => refine(mesh, selection, out),
+        ("refine", [mesh, selection, out]) => changed(REFINE, mesh, selection, out),
         ("list", [mesh]) => list(mesh),
+        ("cuts", [mesh]) => show_cuts(mesh),
+        (SELECT_BACK, [mesh, out, numbers @ ..]) => select_back(mesh, out, numbers),
+        ("take-back", [mesh, request, out]) => changed(TAKE_BACK, mesh, request, out),
         _ => Err(help::wrong_arguments(name)),
     }
 }
+
+/// A command of two words.
+const SELECT_BACK: &str = "select --back";
+
+/// The command that the first words name, and the words after it.
+fn command(words: &[OsString]) -> Option<(&OsStr, &[OsString])> {
+    match words {
+        [] => None,
+        [select, back, rest @ ..] if select == "select" && back == "--back" => {
+            Some((OsStr::new(SELECT_BACK), rest))
+        }
+        [name, rest @ ..] => Some((name, rest)),
+    }
+}
+
+/// A service that takes a mesh and the records that are named in it, and what explains its refusals.
+struct Service {
+    asked: fn(&[u8], &[u8], &mut [u8]) -> u32,
+    explained: fn(u32, &[u8], &[u8]) -> Option<String>,
+}
+
+const REFINE: Service = Service {
+    asked: station::refine,
+    explained: explained::refinement,
+};
+const TAKE_BACK: Service = Service {
+    asked: station::take_back,
+    explained: explained::taking_back,
+};
 
 fn build(job: &OsStr, plain: &OsStr, out: &OsStr) -> Result<(), Ending> {
     let job = number::<u32>(job, u32::MAX)?;
@@ -42,21 +78,40 @@ fn check(mesh: &OsStr) -> Result<(), Ending> {
     print(accepted(&files::read(mesh, LONGEST_MESH)?)?)
 }
 
-/// The numbers are written as they are given. Refine is asked about them, with no room for a result: 20
-/// is all that a good selection can be refused with.
 fn select(mesh: &OsStr, out: &OsStr, numbers: &[OsString]) -> Result<(), Ending> {
+    let numbers = read_numbers(numbers)?;
+    let mesh = files::read(mesh, LONGEST_MESH)?;
+    choose(REFINE, &mesh, out, &numbers)
+}
+
+/// Numbers, or `all` for every cut record.
+fn select_back(mesh: &OsStr, out: &OsStr, numbers: &[OsString]) -> Result<(), Ending> {
+    let numbers = match numbers {
+        [all] if all == "all" => None,
+        numbers => Some(read_numbers(numbers)?),
+    };
+    let mesh = files::read(mesh, LONGEST_MESH)?;
+    let numbers = numbers.unwrap_or_else(|| stored::cut_records(&mesh));
+    choose(TAKE_BACK, &mesh, out, &numbers)
+}
+
+fn read_numbers(numbers: &[OsString]) -> Result<Vec<u16>, Ending> {
     if numbers.len() > usize::from(u16::MAX) {
         let most = "a selection has at most 65,535 numbers";
         return Err(Ending::Wrong(most.to_string()));
     }
     let numbers = numbers.iter().map(|text| number::<u16>(text, u16::MAX));
-    let numbers = numbers.collect::<Result<Vec<u16>, Ending>>()?;
-    let mesh = files::read(mesh, LONGEST_MESH)?;
-    let (job, round) = (stored::job(&mesh), stored::round(&mesh));
-    let selection = stored::selection(job, round, &numbers);
-    match station::refine(&mesh, &selection, &mut []) {
+    numbers.collect()
+}
+
+/// The numbers are written as they are given. The service is asked about them, with no room for a result:
+/// 20 is all that a good selection can be refused with.
+fn choose(service: Service, mesh: &[u8], out: &OsStr, numbers: &[u16]) -> Result<(), Ending> {
+    let (job, round) = (stored::job(mesh), stored::round(mesh));
+    let selection = stored::selection(job, round, numbers);
+    match (service.asked)(mesh, &selection, &mut []) {
         20 => {}
-        number => judged(number, || explained::refinement(number, &mesh, &selection))?,
+        number => judged(number, || (service.explained)(number, mesh, &selection))?,
     }
     let count = numbers.len();
     deliver(
@@ -66,16 +121,17 @@ fn select(mesh: &OsStr, out: &OsStr, numbers: &[OsString]) -> Result<(), Ending>
     )
 }
 
-fn refine(mesh: &OsStr, selection: &OsStr, out: &OsStr) -> Result<(), Ending> {
+/// Refines, or takes cuts back.
+fn changed(service: Service, mesh: &OsStr, selection: &OsStr, out: &OsStr) -> Result<(), Ending> {
     if files::is_standard(mesh) && files::is_standard(selection) {
         return Err(Ending::Wrong("only one input may be -".to_string()));
     }
     let mesh = files::read(mesh, LONGEST_MESH)?;
     let selection = files::read(selection, LONGEST_SELECTION)?;
-    let mut refined = vec![0; LARGEST_MESH];
-    let number = station::refine(&mesh, &selection, &mut refined);
-    judged(number, || explained::refinement(number, &mesh, &selection))?;
-    deliver_mesh(out, refined)
+    let mut result = vec![0; LARGEST_MESH];
+    let number = (service.asked)(&mesh, &selection, &mut result);
+    judged(number, || (service.explained)(number, &mesh, &selection))?;
+    deliver_mesh(out, result)
 }
 
 fn list(mesh: &OsStr) -> Result<(), Ending> {
@@ -86,6 +142,12 @@ fn list(mesh: &OsStr) -> Result<(), Ending> {
     judged(number, || explained::mesh(number, &mesh))?;
     text.truncate(listed.length as usize);
     print(text)
+}
+
+fn show_cuts(mesh: &OsStr) -> Result<(), Ending> {
+    let mesh = files::read(mesh, LONGEST_MESH)?;
+    accepted(&mesh)?;
+    print(cuts::shown(&mesh))
 }
 
 /// A number other than 0 is a refusal.

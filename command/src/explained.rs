@@ -24,19 +24,7 @@ pub fn mesh(number: u32, mesh: &[u8]) -> Option<String> {
 /// 1 to 10 of the mesh, 11 to 19 of the selection for it.
 pub fn refinement(number: u32, mesh: &[u8], selection: &[u8]) -> Option<String> {
     match number {
-        11 | 12 if selection.starts_with(b"TMB") => {
-            Some("this is a mesh, not a selection".to_string())
-        }
-        11 => Some(selection_length(selection)),
-        12 => mark_or_version(selection, "TMS"),
-        13 => Some(another("job", job(selection), job(mesh))),
-        14 => Some(another(
-            "round",
-            round(selection).into(),
-            round(mesh).into(),
-        )),
-        15 => bad_number(mesh, selection),
-        16 => named_where(mesh, selection, |record| record.is_cut)
+        16 => named_where(mesh, selection, |record| record.is_cut())
             .map(|cut| format!("record {cut} is cut: tmb list shows the leaves")),
         17 => named_where(mesh, selection, |record| record.generation == 15)
             .map(|last| format!("leave record {last} out")),
@@ -49,7 +37,70 @@ pub fn refinement(number: u32, mesh: &[u8], selection: &[u8]) -> Option<String> 
                 "the mesh has {vertices} vertices and {records} records: name fewer"
             ))
         }
-        _ => self::mesh(number, mesh),
+        _ => SELECTION.explained(number, mesh, selection),
+    }
+}
+
+/// 1 to 10 of the mesh, 11 to 15, 30 and 18 of the request for it.
+pub fn taking_back(number: u32, mesh: &[u8], request: &[u8]) -> Option<String> {
+    match number {
+        18 => Some("no cut of this mesh can be taken back any more".to_string()),
+        30 => named_where(mesh, request, |record| !record.is_cut())
+            .map(|leaf| format!("record {leaf} is a leaf: tmb cuts shows the cut records")),
+        _ => REQUEST.explained(number, mesh, request),
+    }
+}
+
+/// What names records, and the command that writes it.
+struct Choice {
+    name: &'static str,
+    command: &'static str,
+}
+
+const SELECTION: Choice = Choice {
+    name: "selection",
+    command: "tmb select",
+};
+const REQUEST: Choice = Choice {
+    name: "request",
+    command: "tmb select --back",
+};
+
+impl Choice {
+    /// 1 to 10 of the mesh, and 11 to 15, which are the same of both.
+    fn explained(&self, number: u32, mesh: &[u8], choice: &[u8]) -> Option<String> {
+        match number {
+            11 | 12 if choice.starts_with(b"TMB") => {
+                Some(format!("this is a mesh, not a {}", self.name))
+            }
+            11 => Some(self.length(choice)),
+            12 => mark_or_version(choice, "TMS"),
+            13 => Some(self.another("job", job(choice), job(mesh))),
+            14 => Some(self.another("round", round(choice).into(), round(mesh).into())),
+            15 => bad_number(mesh, choice),
+            _ => self::mesh(number, mesh),
+        }
+    }
+
+    fn length(&self, choice: &[u8]) -> String {
+        let (name, length, count) = (self.name, choice.len(), two(choice, 11));
+        if length < 13 {
+            format!("the {name} has {length} bytes")
+        } else if length > LONGEST_SELECTION {
+            format!("longer than any {name}")
+        } else {
+            let right = 13 + 2 * usize::from(count);
+            format!("the {name} has {length} bytes; {count} numbers make {right}")
+        }
+    }
+
+    /// 13 and 14: what it is of, and what the mesh.
+    fn another(&self, what: &str, chosen: u32, now: u32) -> String {
+        let Choice { name, command } = self;
+        format!(
+            "the {name} is of {what} {chosen} and the mesh of {what} {now}: choose again with \
+             {command}"
+        )
     }
 }
 
@@ -67,18 +118,6 @@ fn mesh_length(mesh: &[u8]) -> String {
     } else {
         // "Input longer than the largest mesh is refused with 1 here": by the listing alone.
         format!("the mesh has {length} bytes, the largest mesh {LARGEST_MESH}")
-    }
-}
-
-fn selection_length(selection: &[u8]) -> String {
-    let (length, count) = (selection.len(), two(selection, 11));
-    if length < 13 {
-        format!("the selection has {length} bytes")
-    } else if length > LONGEST_SELECTION {
-        "longer than any selection".to_string()
-    } else {
-        let right = 13 + 2 * usize::from(count);
-        format!("the selection has {length} bytes; {count} numbers make {right}")
     }
 }
 
@@ -119,14 +158,6 @@ fn hanging_edge(mesh: &[u8]) -> String {
     .map(|slot: usize| corners[slot]);
     let (record, lower, higher) = (report.record, one.min(other), one.max(other));
     format!("record {record}, the edge of vertices {lower} and {higher}")
-}
-
-/// 13 and 14: what the selection is of, and what the mesh.
-fn another(what: &str, chosen: u32, now: u32) -> String {
-    format!(
-        "the selection is of {what} {chosen} and the mesh of {what} {now}: choose again with tmb \
-         select"
-    )
 }
 
 /// 15: the first number that does not rise, or is too high.

@@ -12,7 +12,7 @@ pub struct Page {
     pub text: &'static str,
 }
 
-pub const PAGES: [Page; 6] = [
+pub const PAGES: [Page; 9] = [
     Page {
         name: "build",
         usage: "tmb build JOB PLAIN OUT",
@@ -54,7 +54,7 @@ that hangs.
     Page {
         name: "select",
         usage: "tmb select MESH OUT NUMBER...",
-        line: "chooses pieces for the mesh's job and round",
+        line: "chooses pieces for the mesh's round",
         text: "usage: tmb select MESH OUT NUMBER...
 
 Writes a selection with the mesh's own job and round. What refine would refuse
@@ -65,14 +65,15 @@ is refused at once, and no selection is written.
   NUMBER   a leaf's number as tmb list shows it; the numbers rise
 
 Without a number the selection is empty: refine raises the round and cuts
-nothing. A selection is good for this round alone: it expires with the next
-refinement.
+nothing. A selection is good for this round alone: it expires as soon as a
+refinement or a request is accepted. To name cut records, which can be taken
+back, see tmb help select --back.
 ",
     },
     Page {
         name: "refine",
         usage: "tmb refine MESH SELECTION OUT",
-        line: "cuts the chosen pieces and closes the mesh",
+        line: "cuts chosen pieces, closes the mesh",
         text: "usage: tmb refine MESH SELECTION OUT
 
 Cuts the pieces that the selection names, and further ones until no edge hangs.
@@ -95,6 +96,65 @@ lower and higher vertex, its generation.
 
 The lines are those of the proved list. The program tmb-list, which is installed
 beside tmb, writes the same for a mesh on its standard input.
+",
+    },
+    Page {
+        name: "cuts",
+        usage: "tmb cuts MESH",
+        line: "shows the cut records of a mesh",
+        text: "usage: tmb cuts MESH
+
+Shows a heading with job, round, all vertices, all records, the number of cut
+records and how many of them are ready, then each cut record: its number, its
+four corners, the vertex it is cut at, its first child (the second is the next
+record), its generation, and the word ready where both children are leaves.
+
+Any of them may be named to be taken back. A vertex goes when every record that
+is cut at it is ready and named.
+",
+    },
+    Page {
+        name: "select --back",
+        usage: "tmb select --back MESH OUT NUMBER...|all",
+        line: "chooses cuts for the mesh's round",
+        text: "usage: tmb select --back MESH OUT NUMBER...|all
+
+Writes a request, which names cut records, with the mesh's own job and round.
+What take-back would refuse is refused at once, and no request is written.
+
+  MESH     a stored mesh
+  OUT      the request that is written
+  NUMBER   a cut record's number as tmb cuts shows it; the numbers rise
+  all      every cut record
+
+Without a number the request is empty: take-back raises the round and takes
+nothing back. A request is good for this round alone: it expires as soon as a
+refinement or a request is accepted.
+",
+    },
+    Page {
+        name: "take-back",
+        usage: "tmb take-back MESH REQUEST OUT",
+        line: "takes chosen cuts back",
+        text: "usage: tmb take-back MESH REQUEST OUT
+
+Takes cuts back that the request names. A vertex that was made by a cut goes
+when every record cut at it has two leaves as children and all those records
+are named; the children go with it. Named records that don't meet this stay
+cut. What remains closes up in its order, so numbers change. The round rises by
+1. Prints what check says of the coarser mesh.
+
+  MESH      a stored mesh
+  REQUEST   a request for its job and its round, as tmb select --back writes it
+  OUT       the coarser mesh that is written; it may be MESH
+
+One run is one step. For the coarse mesh, repeat these two until the records
+grow no fewer:
+
+  tmb select --back MESH REQUEST all
+  tmb take-back MESH REQUEST MESH
+
+That is the base, unless pieces hold each other's cuts in a ring.
 ",
     },
     Page {
@@ -122,7 +182,7 @@ file that can't be read or written).
 
 /// The commands in a line each.
 pub fn usage() -> String {
-    let line = |page: &Page| format!("  {:32}{}\n", page.usage, page.line);
+    let line = |page: &Page| format!("  {:42}{}\n", page.usage, page.line);
     let lines: String = PAGES.iter().map(line).collect();
     format!("usage:\n{}", lines.trim_end())
 }

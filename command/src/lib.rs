@@ -1,7 +1,9 @@
-//! The station's command: build, check, select, refine and list on files. The services decide, by the
-//! C functions of the static library; here files are read and written and numbers are put into words.
+//! The station's command: build, check, select, refine, take back and list on files. The services
+//! decide, by the C functions of the static library; here files are read and written and numbers are put
+//! into words.
 
 pub mod commands;
+pub mod cuts;
 pub mod explained;
 pub mod files;
 pub mod help;

@@ -39,6 +39,14 @@ extern "C" {
         out: *mut u8,
         room: usize,
     ) -> u32;
+    fn tmb_take_back(
+        mesh: *const u8,
+        mesh_length: usize,
+        request: *const u8,
+        request_length: usize,
+        out: *mut u8,
+        room: usize,
+    ) -> u32;
     fn tmb_list(mesh: *const u8, mesh_length: usize, out: *mut u8, room: usize) -> Listed;
 }
 
@@ -76,6 +84,23 @@ pub fn refine(mesh: &[u8], selection: &[u8], out: &mut [u8]) -> u32 {
             mesh.len(),
             selection.as_ptr(),
             selection.len(),
+            out.as_mut_ptr(),
+            out.len(),
+        )
+    }
+}
+
+/// The proved take-back: takes a stored mesh and a request and writes the mesh without the cuts that are
+/// taken back. The number alone, 0 on acceptance.
+pub fn take_back(mesh: &[u8], request: &[u8], out: &mut [u8]) -> u32 {
+    // SAFETY: the pointers and the lengths are those of slices; the first two are only read, the
+    // third is written and overlaps neither.
+    unsafe {
+        tmb_take_back(
+            mesh.as_ptr(),
+            mesh.len(),
+            request.as_ptr(),
+            request.len(),
             out.as_mut_ptr(),
             out.len(),
         )

@@ -64,7 +64,8 @@ impl Counts {
 pub struct Record {
     pub corners: [u16; 4],
     pub generation: u8,
-    pub is_cut: bool,
+    /// None if it is uncut.
+    pub first_child: Option<u16>,
 }
 
 impl Record {
@@ -73,9 +74,20 @@ impl Record {
         Record {
             corners: [0, 2, 4, 6].map(|offset| two(mesh, at + offset)),
             generation: byte(mesh, at + 14),
-            is_cut: two(mesh, at + 15) != UNCUT,
+            first_child: Some(two(mesh, at + 15)).filter(|&first| first != UNCUT),
         }
     }
+
+    pub fn is_cut(&self) -> bool {
+        self.first_child.is_some()
+    }
+}
+
+/// The numbers of the cut records.
+pub fn cut_records(mesh: &[u8]) -> Vec<u16> {
+    let all = 0..Counts::of(mesh).records;
+    all.filter(|&number| Record::of(mesh, number.into()).is_cut())
+        .collect()
 }
 
 /// A selection for a job and a round; the caller has at most 65,535 numbers.

@@ -8,11 +8,12 @@ use std::os::unix::fs::{symlink, FileTypeExt, MetadataExt, PermissionsExt};
 use std::path::{Path, PathBuf};
 use std::process::Command;
 
-/// A desk with K, a selection for it and an old output.
+/// A desk with K, a selection for it, an empty one and an old output.
 fn with_k(name: &str) -> Desk {
     let desk = Desk::new(name);
     desk.write("k", &k());
     desk.write("choice", &chosen(&k(), &[0]));
+    desk.write("none", &chosen(&k(), &[]));
     desk.write("old", b"old");
     desk
 }
@@ -39,6 +40,13 @@ fn inputs_that_cannot_be_read() {
         wrong(&desk.run(&["refine", name, "k", "out"]), &message);
         wrong(&desk.run(&["refine", "k", name, "out"]), &message);
         wrong(&desk.run(&["list", name]), &message);
+        wrong(&desk.run(&["cuts", name]), &message);
+        wrong(
+            &desk.run(&["select", "--back", name, "out", "all"]),
+            &message,
+        );
+        wrong(&desk.run(&["take-back", name, "k", "out"]), &message);
+        wrong(&desk.run(&["take-back", "k", name, "out"]), &message);
     }
     let stdin = File::open(desk.folder.join("folder")).unwrap();
     let output = desk.command(&["check", "-"]).stdin(stdin).output().unwrap();
@@ -69,6 +77,15 @@ fn inputs_without_end() {
             11,
             "longer than any selection",
         );
+        refuses(&desk.run(&["cuts", name]), 1, LONG_MESH);
+        let all = ["select", "--back", name, "out", "all"];
+        refuses(&desk.run(&all), 1, LONG_MESH);
+        refuses(&desk.run(&["take-back", name, "k", "out"]), 1, LONG_MESH);
+        refuses(
+            &desk.run(&["take-back", "k", name, "out"]),
+            11,
+            "longer than any request",
+        );
         wrong(
             &desk.run(&["build", "7", name, "out"]),
             &format!("{name}: longer than 16 MiB, the longest text of a plain mesh"),
@@ -91,6 +108,12 @@ fn inputs_at_their_bounds() {
     desk.write("mesh", &mesh);
     let counts = "base vertices 65535, all vertices 65535, base records 65535, all records 65535";
     refuses(&desk.run(&["check", "mesh"]), 3, counts);
+    // As many records as can be counted, all of them cut by what stands there.
+    refuses(
+        &desk.run(&["select", "--back", "mesh", "out", "all"]),
+        3,
+        counts,
+    );
     mesh.push(0);
     desk.write("mesh", &mesh);
     refuses(&desk.run(&["check", "mesh"]), 1, LONG_MESH);
@@ -162,6 +185,8 @@ fn outputs_that_cannot_be_written() {
         let message = format!("{name}: {words}");
         wrong(&desk.run(&["refine", "k", "choice", name]), &message);
         wrong(&desk.run(&["select", "k", name, "0"]), &message);
+        wrong(&desk.run(&["select", "--back", "k", name, "all"]), &message);
+        wrong(&desk.run(&["take-back", "k", "none", name]), &message);
         assert!(desk.files() == before);
     }
 }
@@ -235,7 +260,7 @@ fn links_are_followed() {
         .unwrap()
         .is_symlink());
     let count = |folder: &str| fs::read_dir(desk.folder.join(folder)).unwrap().count();
-    assert_eq!((count("."), count("folder"), count("shelf")), (7, 1, 1));
+    assert_eq!((count("."), count("folder"), count("shelf")), (8, 1, 1));
     // A mesh is read through a link too.
     says(&desk.run(&["check", "to-link"]), K1_LINE);
 }
@@ -257,7 +282,7 @@ fn outputs_that_are_no_files() {
         .unwrap()
         .file_type()
         .is_fifo());
-    assert_eq!(desk.files().len(), 4);
+    assert_eq!(desk.files().len(), 5);
 }
 
 /// A part that a run of the same process number left behind is in nobody's way; a name may be as long

@@ -81,7 +81,7 @@ fn asked_for(folder: &Path) -> Option<String> {
 }
 
 const ROUND: &str = "build 0\nrefine 0\ncheck 0 leaves 2 deepest 1 sixfold 262144\n\
-                     list 0 length 119\nrefine 14\n";
+                     list 0 length 119\ntake back 0\nrefine 14\n";
 
 /// A program compiled with the installation gives the answers of "A piece worked by hand".
 #[track_caller]
@@ -187,6 +187,12 @@ fn a_round(prefix: &Path) {
         14,
         "the selection is of round 0 and the mesh of round 1: choose again with tmb select",
     );
+    says(
+        &desk.run(&["select", "--back", "k", "choice", "all"]),
+        "selected: job 7 round 1 numbers 1",
+    );
+    let back = line(2, "vertices 4 records 1 leaves 1 deepest 0");
+    says(&desk.run(&["take-back", "k", "choice", "k"]), &back);
 }
 
 /// The manual page is there, and `man` shows it without a warning.
@@ -201,13 +207,14 @@ fn the_manual(prefix: &Path) {
     let mut man = Command::new("man");
     man.args(["--warnings", "-P", "cat", "-l"]).arg(page);
     let (shown, warned) = run(man.env("LC_ALL", "C.UTF-8").env("MANWIDTH", "100"));
-    let line = "tmb - build, check, select, refine and list casing meshes";
+    let line = "tmb - build, check, select, refine, take back and list casing meshes";
     assert!(shown.contains(line), "{shown}");
     assert_eq!(warned, "");
     note("man shows the manual page");
 }
 
-/// What README shows first: a round on a shipped casing, at whose end the used selection is refused.
+/// What README shows first: a round on a shipped casing, taken back again, at whose end the used selection is
+/// refused.
 #[test]
 fn the_first_round() {
     let (shown, _) = run(&mut script("docs/first-round"));
@@ -216,7 +223,15 @@ fn the_first_round() {
         .map(|line| line.split(' ').nth(2).unwrap())
         .collect();
     let round = [
-        "build", "list", "select", "refine", "check", "list", "refine",
+        "build",
+        "list",
+        "select",
+        "refine",
+        "check",
+        "list",
+        "select",
+        "take-back",
+        "refine",
     ];
     assert_eq!(names, round);
     let refused = format!("\ntmb: refused 14: {} (", second::reason(14));
@@ -227,5 +242,5 @@ fn the_first_round() {
     let rounds: Vec<&str> = accepted
         .map(|line| line.split(' ').nth(4).unwrap())
         .collect();
-    assert_eq!(rounds, ["0", "1", "1"]);
+    assert_eq!(rounds, ["0", "1", "1", "2"]);
 }

@@ -12,6 +12,8 @@ fn standard_output_that_cannot_be_written() {
     let desk = Desk::new("no-standard-output");
     desk.write("k", &k());
     desk.write("choice", &chosen(&k(), &[0]));
+    desk.write("k1", &k1());
+    desk.write("request", &chosen(&k1(), &[0]));
     let closed = || {
         let mut reader = Command::new("true").stdin(Stdio::piped()).spawn().unwrap();
         let pipe = reader.stdin.take().unwrap();
@@ -43,6 +45,9 @@ fn standard_output_that_cannot_be_written() {
             &["--version"],
             &["select", "k", "-", "0"],
             &["refine", "k", "choice", "-"],
+            &["cuts", "k1"],
+            &["select", "--back", "k1", "-", "all"],
+            &["take-back", "k1", "request", "-"],
         ] {
             wrong(&run(arguments), &message);
         }
@@ -56,5 +61,10 @@ fn standard_output_that_cannot_be_written() {
             &format!("{message} (new is written)"),
         );
         assert_eq!(desk.read("new"), chosen(&k(), &[0]));
+        wrong(
+            &run(&["take-back", "k1", "request", "new"]),
+            &format!("{message} (new is written)"),
+        );
+        assert_eq!(desk.read("new"), taken_back(&k1(), &[0]));
     }
 }

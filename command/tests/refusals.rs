@@ -4,7 +4,7 @@
 mod common;
 use common::*;
 
-/// Check, refine, select and the listing refuse the mesh alike; no file is written or changed.
+/// Every command that takes a mesh refuses it alike; no file is written or changed.
 #[track_caller]
 fn mesh_refused(desk: &Desk, mesh: &[u8], number: u32, why: &str) {
     desk.write("mesh", mesh);
@@ -17,6 +17,13 @@ fn mesh_refused(desk: &Desk, mesh: &[u8], number: u32, why: &str) {
     refuses(&desk.run(&["select", "mesh", "old", "0"]), number, why);
     refuses(&desk.run(&["select", "mesh", "-"]), number, why);
     refuses(&desk.run(&["list", "mesh"]), number, why);
+    let take_back = |out| desk.run(&["take-back", "mesh", "choice", out]);
+    refuses(&take_back("old"), number, why);
+    refuses(&take_back("new"), number, why);
+    let select_back = |out, named| desk.run(&["select", "--back", "mesh", out, named]);
+    refuses(&select_back("old", "0"), number, why);
+    refuses(&select_back("-", "all"), number, why);
+    refuses(&desk.run(&["cuts", "mesh"]), number, why);
     assert!(desk.files() == before);
 }
 
@@ -226,6 +233,128 @@ fn of_a_selection() {
             assert!(desk.files() == before);
         }
     }
+}
+
+#[test]
+fn of_a_request() {
+    let desk = Desk::new("request-refused");
+    let of_k2 = |numbers: &[u16]| chosen(&k2(), numbers);
+    let last = changed(&k2(), |mesh| mesh.round = 65_535);
+    let expired = |what: &str| format!("{what}: choose again with tmb select --back");
+    let cases = [
+        (
+            k2(),
+            b"TMS".to_vec(),
+            11,
+            "the request has 3 bytes".to_string(),
+        ),
+        (
+            k2(),
+            of_k2(&[1])[..14].to_vec(),
+            11,
+            "the request has 14 bytes; 1 numbers make 15".to_string(),
+        ),
+        (k2(), k2(), 11, "this is a mesh, not a request".to_string()),
+        (
+            k2(),
+            poked(&of_k2(&[1]), 1, b"X"),
+            12,
+            "it does not begin with TMS".to_string(),
+        ),
+        (
+            k2(),
+            poked(&of_k2(&[1]), 0, b"TMB"),
+            12,
+            "this is a mesh, not a request".to_string(),
+        ),
+        (
+            k2(),
+            poked(&of_k2(&[1]), 3, &[2]),
+            12,
+            "its version is 2, and version 1 is the one known here".to_string(),
+        ),
+        (
+            k2(),
+            second::selection(70_008, 3, &[0]),
+            13,
+            expired("the request is of job 70008 and the mesh of job 7"),
+        ),
+        (
+            k2(),
+            second::selection(7, 1, &[9]),
+            14,
+            expired("the request is of round 1 and the mesh of round 2"),
+        ),
+        (
+            k2(),
+            of_k2(&[1, 7]),
+            15,
+            "7 is named, and the mesh has 7 records".to_string(),
+        ),
+        (k2(), of_k2(&[2, 1]), 15, "1 stands after 2".to_string()),
+        (
+            k2(),
+            of_k2(&[1, 5, 6]),
+            30,
+            "record 5 is a leaf: tmb cuts shows the cut records".to_string(),
+        ),
+        (
+            k(),
+            chosen(&k(), &[0]),
+            30,
+            "record 0 is a leaf: tmb cuts shows the cut records".to_string(),
+        ),
+        (
+            last.clone(),
+            chosen(&last, &[1, 2]),
+            18,
+            "no cut of this mesh can be taken back any more".to_string(),
+        ),
+        (
+            last.clone(),
+            chosen(&last, &[1, 3]),
+            30,
+            "record 3 is a leaf: tmb cuts shows the cut records".to_string(),
+        ),
+    ];
+    for (mesh, request, number, why) in cases {
+        desk.write("mesh", &mesh);
+        desk.write("request", &request);
+        desk.write("old", b"old");
+        let before = desk.files();
+        for out in ["old", "new", "mesh", "request", "-"] {
+            refuses(
+                &desk.run(&["take-back", "mesh", "request", out]),
+                number,
+                &why,
+            );
+            assert!(desk.files() == before);
+        }
+        // What select is given on the command line is refused at once.
+        if number > 14 {
+            let mut select = ["select", "--back", "mesh", "old"]
+                .map(str::to_string)
+                .to_vec();
+            let numbers = request[13..]
+                .chunks(2)
+                .map(|two| u16::from_le_bytes([two[0], two[1]]));
+            select.extend(numbers.map(|number| number.to_string()));
+            refuses(&desk.run(&select), number, &why);
+            assert!(desk.files() == before);
+        }
+    }
+    // Every cut record of the last round: 18.
+    desk.write("mesh", &last);
+    let all = desk.run(&["select", "--back", "mesh", "new", "all"]);
+    refuses(&all, 18, "no cut of this mesh can be taken back any more");
+    // What one service takes the other refuses.
+    desk.write("mesh", &k2());
+    desk.write("request", &of_k2(&[1, 2]));
+    refuses(
+        &desk.run(&["refine", "mesh", "request", "new"]),
+        16,
+        "record 1 is cut: tmb list shows the leaves",
+    );
 }
 
 #[test]

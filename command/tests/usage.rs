@@ -7,12 +7,15 @@ use std::os::unix::ffi::OsStrExt;
 use std::process::Output;
 
 const USAGE: &str = "usage:
-  tmb build JOB PLAIN OUT         marks a plain mesh and stores it
-  tmb check MESH                  judges a stored mesh
-  tmb select MESH OUT NUMBER...   chooses pieces for the mesh's job and round
-  tmb refine MESH SELECTION OUT   cuts the chosen pieces and closes the mesh
-  tmb list MESH                   shows the pieces of a mesh
-  tmb help [COMMAND]              shows this, or more about a command";
+  tmb build JOB PLAIN OUT                   marks a plain mesh and stores it
+  tmb check MESH                            judges a stored mesh
+  tmb select MESH OUT NUMBER...             chooses pieces for the mesh's round
+  tmb refine MESH SELECTION OUT             cuts chosen pieces, closes the mesh
+  tmb list MESH                             shows the pieces of a mesh
+  tmb cuts MESH                             shows the cut records of a mesh
+  tmb select --back MESH OUT NUMBER...|all  chooses cuts for the mesh's round
+  tmb take-back MESH REQUEST OUT            takes chosen cuts back
+  tmb help [COMMAND]                        shows this, or more about a command";
 
 /// Status 0, nothing on standard error, and what is printed.
 #[track_caller]
@@ -80,13 +83,32 @@ fn help() {
             "usage: tmb list MESH\n",
             "The lines are those of the proved list.",
         ),
+        (
+            "cuts",
+            "usage: tmb cuts MESH\n",
+            "the word ready where both children are leaves",
+        ),
+        (
+            "select --back",
+            "usage: tmb select --back MESH OUT NUMBER...|all\n",
+            "A request is good for this round alone",
+        ),
+        (
+            "take-back",
+            "usage: tmb take-back MESH REQUEST OUT\n",
+            "unless pieces hold each other's cuts in a ring",
+        ),
         ("help", "usage: tmb help [COMMAND]\n", "Shows the commands"),
     ] {
-        let page = printed(desk.run(&["help", command]));
+        // A command may have two words.
+        let command: Vec<&str> = command.split(' ').collect();
+        let page = printed(desk.run(&[&["help"], &command[..]].concat()));
         assert!(page.starts_with(usage), "{page}");
         assert!(page.contains(words), "{page}");
-        assert_eq!(printed(desk.run(&[command, "--help"])), page);
-        assert_eq!(printed(desk.run(&[command, "-h"])), page);
+        for asked in ["--help", "-h"] {
+            let asked = [&command[..], &[asked]].concat();
+            assert_eq!(printed(desk.run(&asked)), page);
+        }
         assert!(fits(&page), "{page}");
     }
 }
@@ -145,7 +167,23 @@ fn wrong_counts_of_arguments() {
         ),
         ("list MESH", &["list"]),
         ("list MESH", &["list", "k", "k"]),
+        ("cuts MESH", &["cuts"]),
+        ("cuts MESH", &["cuts", "k", "k"]),
+        (
+            "select --back MESH OUT NUMBER...|all",
+            &["select", "--back"],
+        ),
+        (
+            "select --back MESH OUT NUMBER...|all",
+            &["select", "--back", "k"],
+        ),
+        ("take-back MESH REQUEST OUT", &["take-back", "k", "k"]),
+        (
+            "take-back MESH REQUEST OUT",
+            &["take-back", "k", "k", "out", "more"],
+        ),
         ("help [COMMAND]", &["help", "build", "check"]),
+        ("help [COMMAND]", &["help", "select", "--back", "k"]),
     ] {
         wrong(&desk.run(arguments), &format!("usage: tmb {usage}"));
     }
@@ -168,7 +206,26 @@ fn wrong_numbers() {
             &desk.run(&["select", "k", "out", "0", number]),
             &format!("{number}: not a whole number from 0 to 65535"),
         );
+        wrong(
+            &desk.run(&["select", "--back", "k", "out", "0", number]),
+            &format!("{number}: not a whole number from 0 to 65535"),
+        );
     }
+    // Every cut record, and no number beside; the pieces of a selection are named one by one.
+    for arguments in [
+        &["select", "--back", "k", "out", "all", "0"][..],
+        &["select", "--back", "k", "out", "0", "all"],
+        &["select", "k", "out", "all"],
+    ] {
+        wrong(
+            &desk.run(arguments),
+            "all: not a whole number from 0 to 65535",
+        );
+    }
+    wrong(
+        &desk.run(&["select", "k", "out", "--back"]),
+        "--back: not a whole number from 0 to 65535",
+    );
     let number = OsStr::from_bytes(b"\xFF");
     let arguments = [
         OsStr::new("select"),
@@ -189,15 +246,22 @@ fn wrong_numbers() {
         &desk.run(&arguments),
         "a selection has at most 65,535 numbers",
     );
+    arguments.insert(1, "--back");
+    wrong(
+        &desk.run(&arguments),
+        "a selection has at most 65,535 numbers",
+    );
     assert_eq!(desk.files().len(), 2);
 }
 
 #[test]
 fn only_one_input_is_standard() {
     let desk = Desk::new("one-standard");
-    wrong(
-        &desk.run(&["refine", "-", "-", "out"]),
-        "only one input may be -",
-    );
+    for command in ["refine", "take-back"] {
+        wrong(
+            &desk.run(&[command, "-", "-", "out"]),
+            "only one input may be -",
+        );
+    }
     assert!(desk.files().is_empty());
 }

@@ -11,8 +11,10 @@ fn manual() -> String {
 
 #[test]
 fn the_sentences_are_the_second_programs() {
-    assert_eq!(SENTENCES.len(), 22);
-    for (number, sentence) in (0..).zip(SENTENCES) {
+    let numbers: Vec<u32> = SENTENCES.iter().map(|(number, _)| *number).collect();
+    let known = |number: &u32| second::reason(*number) != "no such number";
+    assert_eq!(numbers, (0..100).filter(known).collect::<Vec<u32>>());
+    for (number, sentence) in SENTENCES {
         assert_eq!(sentence, second::reason(number));
     }
 }
@@ -20,7 +22,7 @@ fn the_sentences_are_the_second_programs() {
 #[test]
 fn the_manual_has_every_sentence() {
     let manual = manual().replace("\\(pc", "·");
-    for (number, sentence) in SENTENCES.iter().enumerate().skip(1) {
+    for (number, sentence) in &SENTENCES[1..] {
         let heading = format!("\n.TP\n.B {number}\n");
         let entry = manual.split_once(&heading).unwrap().1;
         let lines = entry.lines().take_while(|line| !line.starts_with('.'));
@@ -35,7 +37,8 @@ fn the_manual_has_every_command() {
         let plain = text
             .replace("\\fI", "")
             .replace("\\fP", "")
-            .replace("\\fR", "");
+            .replace("\\fR", "")
+            .replace("\\-", "-");
         plain.replace(".B ", "")
     };
     let synopsis = manual.split_once(".SH SYNOPSIS\n").unwrap().1;
@@ -44,10 +47,7 @@ fn the_manual_has_every_command() {
         .lines()
         .filter(|line| line.starts_with("tmb "))
         .collect();
-    let usage = PAGES
-        .iter()
-        .map(|page| page.usage)
-        .chain(["tmb \\-\\-version"]);
+    let usage = PAGES.iter().map(|page| page.usage).chain(["tmb --version"]);
     assert_eq!(lines, usage.collect::<Vec<_>>());
     assert!(
         manual.starts_with(".TH TMB 1 ")

@@ -1,5 +1,5 @@
-//! The second program: build, check, refine and list, written from document 01 alone, to be
-//! compared with the proved services on many meshes.
+//! The second program: build, check, refine, take back and list, written from documents 01 and 02
+//! alone, to be compared with the proved services on many meshes.
 //!
 //! Every byte string and every length of buffer gets an answer. No number or code read from bytes
 //! is used as an index before it is tested.
@@ -10,12 +10,14 @@ pub mod list;
 pub mod mesh;
 pub mod piece;
 pub mod refine;
+pub mod take_back;
 
 pub use build::{build, build_vec};
 pub use check::{check, Report};
 pub use list::{list, list_into, Listed};
 pub use mesh::{LARGEST_MESH, MOST_RECORDS, MOST_VERTICES};
 pub use refine::{refine, refine_vec, selection};
+pub use take_back::{take_back, take_back_vec};
 
 /// "After a refusal the output buffer is zero throughout; after acceptance it is zero past the
 /// result." 20: "the output buffer is shorter than the result".
@@ -33,7 +35,8 @@ fn deliver(result: Result<Vec<u8>, u32>, out: &mut [u8]) -> u32 {
     }
 }
 
-/// "Numbers we give back": the row of the table for each number, in its own words.
+/// "Numbers we give back": the row of the table for each number, and document 02's 30, in their own
+/// words.
 pub fn reason(number: u32) -> &'static str {
     match number {
         0 => "accepted",
@@ -75,6 +78,7 @@ pub fn reason(number: u32) -> &'static str {
         19 => "the closed result exceeds 1,024 vertices or 3,072 records",
         20 => "the output buffer is shorter than the result",
         21 => "build: coordinates not three a vertex, or corners not four a piece",
+        30 => "a named record that is uncut",
         _ => "no such number",
     }
 }

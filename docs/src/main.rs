@@ -1,4 +1,4 @@
-//! The program `second`: build, check, refine, select and list on files.
+//! The program `second`: build, check, refine, take back, select and list on files.
 //!
 //! A plain mesh (PLAIN below) is a text file. What follows a `#` on a line is a comment. A line
 //! `v x y z` gives a vertex by its three coordinates; vertices are numbered from 0 as they come. A
@@ -14,11 +14,12 @@ use std::process::ExitCode;
 use std::str::FromStr;
 
 const USAGE: &str = "usage:
-  second build JOB PLAIN OUT         marks the plain mesh and stores it
-  second check MESH                  judges a stored mesh
-  second refine MESH SELECTION OUT   writes the refined mesh
-  second select MESH OUT n n n ..    writes a selection for the mesh's job and round
-  second list < MESH                 prints the pieces
+  second build JOB PLAIN OUT          marks the plain mesh and stores it
+  second check MESH                   judges a stored mesh
+  second refine MESH SELECTION OUT    writes the refined mesh
+  second take-back MESH REQUEST OUT   writes the mesh without the cuts taken back
+  second select MESH OUT n n n ..     writes a selection for the mesh's job and round
+  second list < MESH                  prints the pieces
 A plain mesh is a text file: lines `v x y z` (a vertex) and `p a b c d` (a piece by the
 numbers of its corners, from 0); what follows a # is a comment.";
 
@@ -74,6 +75,11 @@ fn run(arguments: &[OsString]) -> Result<String, Ending> {
             let refined = second::refine_vec(&read(mesh)?, &read(selection)?).map_err(refused)?;
             write_whole(Path::new(out), &refined)?;
             Ok(format!("accepted: {} bytes\n", refined.len()))
+        }
+        ("take-back", [mesh, request, out]) => {
+            let coarser = second::take_back_vec(&read(mesh)?, &read(request)?).map_err(refused)?;
+            write_whole(Path::new(out), &coarser)?;
+            Ok(format!("accepted: {} bytes\n", coarser.len()))
         }
         ("select", [mesh, out, numbers @ ..]) => {
             let bytes = read(mesh)?;

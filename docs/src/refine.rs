@@ -2,7 +2,7 @@
 
 use crate::check::{hanging_edge, judge};
 use crate::deliver;
-use crate::mesh::{u16_at, u32_at, Mesh, Pairs, Vertex, MOST_RECORDS, MOST_VERTICES};
+use crate::mesh::{u16_at, u32_at, Mesh, Pairs, Record, Vertex, MOST_RECORDS, MOST_VERTICES};
 use crate::piece::{children, ends};
 
 /// "Selection: `TMS` at 0, version 1 at 3, job at 5, round at 9, count n (u16) at 11, then n record
@@ -50,6 +50,21 @@ pub fn refine_vec(mesh: &[u8], selection: &[u8]) -> Result<Vec<u8>, u32> {
 /// The selected records, in rising number, by the rules 11 to 17. Each rule is tried over the whole
 /// selection before the next.
 fn selected(mesh: &Mesh, selection: &[u8]) -> Result<Vec<usize>, u32> {
+    let named = named(mesh, selection)?;
+    // "a named record is already cut"
+    if named.iter().any(|(_, record)| !record.is_leaf()) {
+        return Err(16);
+    }
+    // "a named record has generation 15"
+    if named.iter().any(|(_, record)| record.generation == 15) {
+        return Err(17);
+    }
+    Ok(named.into_iter().map(|(number, _)| number).collect())
+}
+
+/// The named records with their numbers, in rising number, by the rules 11 to 15. Each rule is tried
+/// over the whole selection before the next.
+pub(crate) fn named<'a>(mesh: &'a Mesh, selection: &[u8]) -> Result<Vec<(usize, &'a Record)>, u32> {
     let count = usize::from(u16_at(selection, 11));
     // "selection under 13 bytes, or length not 13 + 2n"
     if selection.len() < 13 || selection.len() != 13 + 2 * count {
@@ -71,23 +86,12 @@ fn selected(mesh: &Mesh, selection: &[u8]) -> Result<Vec<usize>, u32> {
         .map(|place| usize::from(u16_at(selection, 13 + 2 * place)))
         .collect();
     // "numbers not strictly rising, or one not below the record count"
-    let rising = numbers.windows(2).all(|two| two[0] < two[1]);
-    let named: Option<Vec<_>> = numbers
-        .iter()
-        .map(|&number| mesh.records.get(number))
-        .collect();
-    let (true, Some(named)) = (rising, named) else {
+    if !numbers.windows(2).all(|two| two[0] < two[1]) {
         return Err(15);
-    };
-    // "a named record is already cut"
-    if named.iter().any(|record| !record.is_leaf()) {
-        return Err(16);
     }
-    // "a named record has generation 15"
-    if named.iter().any(|record| record.generation == 15) {
-        return Err(17);
-    }
-    Ok(numbers)
+    let record = |number: usize| Some((number, mesh.records.get(number)?));
+    let named: Option<Vec<_>> = numbers.into_iter().map(record).collect();
+    named.ok_or(15)
 }
 
 /// "A cut uses the vertex with that parent pair if there is one, else appends it; then appends its

@@ -177,7 +177,7 @@ fn a_leaf_of_14_where_the_tables_have_no_room() {
 
 #[test]
 fn every_number_has_words() {
-    let words: Vec<&str> = (0..=21).map(second::reason).collect();
+    let words: Vec<&str> = (0..=21).chain([30]).map(second::reason).collect();
     assert!(words.iter().all(|words| words.len() > 5));
     for (n, one) in words.iter().enumerate() {
         assert!(words[..n].iter().all(|other| other != one));
@@ -186,6 +186,7 @@ fn every_number_has_words() {
         second::reason(14),
         "another round: the selection has expired"
     );
+    assert_eq!(second::reason(30), "a named record that is uncut");
     assert_eq!(second::reason(22), "no such number");
     assert_eq!(second::reason(u32::MAX), "no such number");
 }

@@ -130,6 +130,29 @@ fn the_worked_piece_from_plain_mesh_to_listing() {
 }
 
 #[test]
+fn cuts_taken_back() {
+    let desk = Desk::new("taken-back");
+    let finer = refined(&refined(&k(), &[0]), &[1, 2]);
+    desk.write("k", &finer);
+    desk.run(&["select", "k", "request", "1"]);
+    prints(
+        desk.run(&["take-back", "k", "request", "k"]),
+        "accepted: 165 bytes\n",
+    );
+    assert_eq!(desk.read("k"), taken_back(&finer, &[1]));
+    refuses(
+        desk.run(&["take-back", "k", "request", "k"]),
+        "refused 14: another round: the selection has expired\n",
+    );
+    desk.run(&["select", "k", "request", "1"]);
+    refuses(
+        desk.run(&["take-back", "k", "request", "new"]),
+        "refused 30: a named record that is uncut\n",
+    );
+    assert_eq!(desk.files(), ["k", "request"]);
+}
+
+#[test]
 fn the_cube() {
     let desk = Desk::new("cube");
     prints(
@@ -286,6 +309,8 @@ fn wrong_commands() {
         &["check", "k", "k"],
         &["refine", "k", "choice"],
         &["refine", "k", "choice", "out", "more"],
+        &["take-back", "k", "choice"],
+        &["take-back", "k", "choice", "out", "more"],
         &["select", "k"],
         &["list", "k"],
         &["show", "k"],
@@ -308,6 +333,11 @@ fn wrong_commands() {
     wrong(desk.run(&["build", "7", "missing", "out"]), "missing");
     wrong(desk.run(&["refine", "k", "missing", "out"]), "missing");
     wrong(desk.run(&["refine", "missing", "choice", "out"]), "missing");
+    wrong(desk.run(&["take-back", "k", "missing", "out"]), "missing");
+    wrong(
+        desk.run(&["take-back", "missing", "choice", "out"]),
+        "missing",
+    );
     wrong(
         desk.run(&["refine", "k", "choice", "no/such/place"]),
         "no/such/place",

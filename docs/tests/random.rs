@@ -3,7 +3,7 @@
 
 mod common;
 use common::*;
-use second::{build_vec, check, list, refine, refine_vec, selection};
+use second::{build_vec, check, list, refine, refine_vec, selection, take_back};
 use std::collections::{BTreeMap, BTreeSet};
 
 fn seed() -> u64 {
@@ -250,6 +250,33 @@ fn random_choice(random: &mut Random, mesh: &[u8]) -> Vec<u16> {
     leaves
 }
 
+/// A random request: none, all cut records, all that are cut at some vertices, all but one of those, or
+/// any.
+fn random_request(random: &mut Random, mesh: &[u8]) -> Vec<u16> {
+    let stored = decode(mesh);
+    let mut named = stored.cut_records();
+    let made = stored.vertices.len() - stored.base_vertices as usize;
+    match random.below(8) {
+        _ if made == 0 => {}
+        0 => named.clear(),
+        1..=2 => {}
+        3..=5 => {
+            named.clear();
+            for _ in 0..1 + random.below(4) {
+                let vertex = stored.base_vertices + random.below(made) as u16;
+                named.extend(stored.cut_at(vertex));
+            }
+            if random.below(3) == 0 {
+                named.swap_remove(random.below(named.len()));
+            }
+        }
+        _ => named.retain(|_| random.below(3) > 0),
+    }
+    named.sort_unstable();
+    named.dedup();
+    named
+}
+
 /// Names for vertices that don't depend on the order in which they were made.
 #[derive(Default)]
 struct Names(BTreeMap<(usize, usize), usize>);
@@ -423,6 +450,70 @@ fn random_meshes_refined_for_several_rounds() {
     );
     assert!(refinements > 1_000 && cuts > 10_000 && faces > 10_000);
     assert_eq!(deepest_seen, 15);
+}
+
+/// Refined and taken back in turn: the naive take-back's bytes, and the cuts that are left are some of
+/// those that were there.
+#[test]
+fn random_meshes_refined_and_taken_back() {
+    let seed = seed() + 6;
+    println!("seed {seed}");
+    let mut random = Random(seed);
+    let (mut requests, mut gone, mut kept, mut stayed, mut undone) = (0, 0, 0, 0, 0);
+    for _ in 0..200 {
+        let mut mesh = random_mesh(&mut random, 12);
+        let whole = check(&mesh).sixfold;
+        for _ in 0..12 {
+            let before = mesh.clone();
+            let selected = random_choice(&mut random, &mesh);
+            mesh = match refine_vec(&mesh, &choose(&mesh, &selected)) {
+                Ok(finer) => finer,
+                Err(number) => {
+                    assert_eq!(number, 19);
+                    break;
+                }
+            };
+            if mesh.len() > 12_000 {
+                break;
+            }
+            if random.below(3) == 0 {
+                mesh = renumbered(&mut random, &decode(&mesh)).bytes();
+            }
+            for _ in 0..1 + random.below(2) {
+                let named = random_request(&mut random, &mesh);
+                let result = taken_back(&mesh, &named);
+                assert_eq!(result, naive_take_back(&mesh, &named).bytes());
+                figures_hold(&result);
+                assert_eq!(check(&result).sixfold, whole);
+                let (old, new) = (decode(&mesh), decode(&result));
+                shared_faces(&new);
+                let mut names = Names::default();
+                let (old_cut, new_cut) = (&names.pieces(&old)[1], &names.pieces(&new)[1]);
+                assert!(new_cut.is_subset(old_cut));
+                let taken = old_cut.len() - new_cut.len();
+                assert_eq!(new.records.len() + 2 * taken, old.records.len());
+                assert!(taken <= named.len());
+                requests += 1;
+                gone += (taken > 0) as u32;
+                kept += (taken > 0 && taken < named.len()) as u32;
+                stayed += (taken == 0 && !named.is_empty()) as u32;
+                undone += (new.records.len() > new.base_records as usize
+                    && new.vertices.len() == decode(&before).vertices.len()
+                    && result
+                        == Stored {
+                            round: new.round,
+                            ..decode(&before)
+                        }
+                        .bytes()) as u32;
+                mesh = result;
+            }
+        }
+    }
+    println!(
+        "{requests} requests, cuts taken back in {gone} and others named in {kept} of them, none of \
+         those named in {stayed}, the round before but for its number in {undone}"
+    );
+    assert!(requests > 1_500 && gone > 500 && kept > 200 && stayed > 200 && undone > 20);
 }
 
 #[test]
@@ -689,18 +780,20 @@ fn damaged_meshes() {
                 assert_eq!(place, (0, 0));
             }
             given[report.number as usize] += 1;
-            // Refine sees the same, and a mesh that is accepted can be refined.
-            let mut out = vec![0xAA; 3_000];
-            let number = refine(&bytes, &[], &mut out);
-            assert_eq!(
-                number as u64,
-                if report.number == 0 {
-                    11
-                } else {
-                    report.number
-                }
-            );
-            assert!(out.iter().all(|&byte| byte == 0));
+            // Refine and take-back see the same; where the mesh is accepted, no bytes are no selection.
+            for service in [refine, take_back] {
+                let mut out = vec![0xAA; 3_000];
+                let number = service(&bytes, &[], &mut out);
+                assert_eq!(
+                    number as u64,
+                    if report.number == 0 {
+                        11
+                    } else {
+                        report.number
+                    }
+                );
+                assert!(out.iter().all(|&byte| byte == 0));
+            }
             let line = format!("refused {}\n", report.number);
             assert_eq!(list(&bytes) == line.as_bytes(), report.number != 0);
         }

@@ -1,6 +1,6 @@
 /*
- * Calls tmb_check, tmb_build, tmb_refine and tmb_list as docs/tmb.h declares them and compares the
- * reports, the numbers, the lengths and the bytes; prints ok if all are right.
+ * Calls tmb_check, tmb_build, tmb_refine, tmb_take_back and tmb_list as docs/tmb.h declares them and
+ * compares the reports, the numbers, the lengths and the bytes; prints ok if all are right.
  */
 #include "tmb.h"
 
@@ -67,6 +67,9 @@ static const uint8_t cut[121] = {
 
 /* Record 0, selected for job 7 and round 0. */
 static const uint8_t selected[15] = {'T', 'M', 'S', 1, 0, 7, 0, 0, 0, 0, 0, 1, 0, 0, 0};
+
+/* The same record, named for job 7 and round 1: to be taken back. */
+static const uint8_t named[15] = {'T', 'M', 'S', 1, 0, 7, 0, 0, 0, 1, 0, 1, 0, 0, 0};
 
 /* K cut, listed: the whole output of document 01's example; 119 bytes. */
 static const char listed[] = "job 7 round 1 vertices 5 records 3 leaves 2 deepest 1 sixfold 262144\n"
@@ -147,6 +150,18 @@ static void expect_refined(const char *name, const uint8_t *mesh, size_t mesh_le
     expect_written(name, room, given, number, wanted);
 }
 
+/* Takes cuts of a mesh back by the request into so many bytes. */
+static void expect_taken_back(const char *name, const uint8_t *mesh, size_t mesh_length,
+                              const uint8_t *request, size_t request_length, size_t room,
+                              uint32_t number, const uint8_t *wanted)
+{
+    uint32_t given;
+
+    fill();
+    given = tmb_take_back(mesh, mesh_length, request, request_length, buffer + 1, room);
+    expect_written(name, room, given, number, wanted);
+}
+
 /* Lists a mesh into so many bytes; text is what the buffer is to begin with, and zeros follow. */
 static void expect_listed(const char *name, const uint8_t *mesh, size_t mesh_length, size_t room,
                           uint64_t number, const char *text)
@@ -177,7 +192,7 @@ int main(void)
 {
     struct tmb_report accepted = {0, 1, 0, 262144, 0, 0};
     struct tmb_report refused = {0, 0, 0, 0, 0, 0};
-    uint8_t changed[sizeof k];
+    uint8_t changed[sizeof k], coarse[sizeof cut] = {0}, leaf[sizeof named];
     size_t i;
 
     expect("K", tmb_check(k, sizeof k), accepted);
@@ -206,6 +221,26 @@ int main(void)
     expect_refined("the selection again", cut, sizeof cut, sizeof selected, 121, 14, NULL);
     expect_refined("no selection", k, sizeof k, 0, 121, 11, NULL);
     expect_refined("no mesh", k, 0, sizeof selected, 121, 1, NULL);
+
+    /* K of round 2, and zeros past it; record 1, a leaf, in the request's only number. */
+    for (i = 0; i < sizeof k; i++)
+        coarse[i] = k[i];
+    coarse[9] = 2;
+    for (i = 0; i < sizeof named; i++)
+        leaf[i] = named[i];
+    leaf[13] = 1;
+    expect_taken_back("K's cut taken back into 77 bytes", cut, sizeof cut, named, sizeof named, 77, 0,
+                      coarse);
+    expect_taken_back("K's cut taken back into 121 bytes", cut, sizeof cut, named, sizeof named, 121,
+                      0, coarse);
+    expect_taken_back("K's cut taken back into 76 bytes", cut, sizeof cut, named, sizeof named, 76,
+                      20, NULL);
+    expect_taken_back("K's cut taken back into none", cut, sizeof cut, named, sizeof named, 0, 20,
+                      NULL);
+    expect_taken_back("the request again", coarse, sizeof k, named, sizeof named, 121, 14, NULL);
+    expect_taken_back("a leaf", cut, sizeof cut, leaf, sizeof leaf, 121, 30, NULL);
+    expect_taken_back("no request", cut, sizeof cut, named, 0, 121, 11, NULL);
+    expect_taken_back("no mesh", cut, 0, named, sizeof named, 121, 1, NULL);
 
     expect_listed("K cut listed into its length", cut, sizeof cut, strlen(listed), 0, listed);
     expect_listed("K cut listed into a byte less", cut, sizeof cut, strlen(listed) - 1, 20, "");

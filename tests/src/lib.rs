@@ -3,12 +3,13 @@
 
 pub mod damage;
 pub mod meshes;
+pub mod named;
 pub mod plot;
 pub mod random;
 pub mod renumber;
 
 use second::{Listed, Report};
-pub use tmb::station::{build as tmb_build, refine as tmb_refine};
+pub use tmb::station::{build as tmb_build, refine as tmb_refine, take_back as tmb_take_back};
 
 /// The proved check of a stored mesh, its report as the second program's.
 pub fn tmb_check(mesh: &[u8]) -> Report {

@@ -5,6 +5,7 @@ use second::mesh::{Mesh, Record, Vertex, NO_NUMBER};
 use second::piece::{children, ends, on_face, slots, EDGES};
 use second::{build_vec, refine_vec, selection, MOST_RECORDS, MOST_VERTICES};
 use std::collections::{BTreeMap, BTreeSet};
+use std::f64::consts::TAU;
 
 /// K of "A piece worked by hand": its four places.
 pub const K: [[i16; 3]; 4] = [[0, 0, 0], [64, 0, 0], [64, 64, 0], [64, 64, 64]];
@@ -305,6 +306,54 @@ pub fn ladder(pieces: u16) -> Plain {
 /// The refinement edge and the marks of each of a ladder's pieces.
 pub const LADDER: (u8, [u8; 4]) = (5, [5, 5, 0, 0]);
 
+/// A ring: so many rungs round an axis, at least 3, and between each two that follow a piece. Marked as `RING`
+/// says, each piece is cut at its own rung first (type O) and its children at the next: whichever is cut, all
+/// are, twice, and no midpoint of a rung can be taken away before another is.
+pub fn ring(pieces: u16) -> Plain {
+    let mut plain = Plain::default();
+    let on_grid = |x: f64| 32 * (x / 32.0).round() as i16;
+    for rung in 0..pieces {
+        let angle = TAU * f64::from(rung) / f64::from(pieces);
+        let radius = 320.0 * f64::from(pieces);
+        let place = [angle.cos(), angle.sin()].map(|part| on_grid(radius * part));
+        // Upright and outward in turn, so that no two that follow are in one plane; the last of an odd number both.
+        let outward = [angle.cos(), angle.sin()].map(|part| on_grid(64.0 * part));
+        let ([x, y], z) = match (rung % 2, rung + 1 == pieces) {
+            (0, false) => ([0, 0], 64),
+            (0, true) => (outward, 64),
+            _ => (outward, 0),
+        };
+        plain.places.push([place[0], place[1], 0]);
+        plain.places.push([place[0] + x, place[1] + y, z]);
+    }
+    for rung in 0..pieces {
+        let next = (rung + 1) % pieces;
+        let rungs = [rung, next].map(|rung| [2 * rung, 2 * rung + 1]);
+        plain
+            .pieces
+            .push([rungs[0][0], rungs[0][1], rungs[1][0], rungs[1][1]]);
+    }
+    plain
+}
+
+/// The refinement edge and the marks of each of a ring's pieces.
+pub const RING: (u8, [u8; 4]) = (0, [5, 5, 0, 0]);
+
+/// Three pieces round an edge that build marks so that cuts hold each other from generation 5 on: a ring too.
+pub fn round_an_edge() -> Plain {
+    let places = [
+        [32, 64, 96],
+        [32, 32, 192],
+        [0, 128, 0],
+        [96, 0, 32],
+        [96, 96, 0],
+    ];
+    Plain {
+        places: places.to_vec(),
+        pieces: vec![[0, 1, 2, 3], [0, 1, 3, 4], [0, 1, 4, 2]],
+    }
+}
+
 /// So many pieces like K that share nothing, at most 256.
 pub fn separate(pieces: usize) -> Plain {
     let mut plain = Plain::default();
@@ -455,6 +504,13 @@ pub fn random_base(random: &mut Random, most: usize) -> Mesh {
 pub fn open_leaves(mesh: &Mesh) -> Vec<u16> {
     let open = mesh.leaves().filter(|(_, leaf)| leaf.generation < 15);
     open.map(|(number, _)| number as u16).collect()
+}
+
+/// The records that may be named in a request.
+pub fn cut_records(mesh: &Mesh) -> Vec<u16> {
+    let cut = (0..).zip(&mesh.records);
+    let cut = cut.filter(|(_, record)| !record.is_leaf());
+    cut.map(|(number, _)| number).collect()
 }
 
 /// Refined by the second program, by a selection for the mesh's own job and round.

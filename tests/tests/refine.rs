@@ -4,13 +4,17 @@
 use compared::damage::damaged;
 use compared::meshes::{
     beside, block, chosen_anyhow, cubes, cut_alone, deepened, filled, joined, ladder, open_leaves,
-    random_base, scattered, separate, single_pieces, Plain, K, LADDER,
+    random_base, scattered, separate, single_pieces, LADDER,
+};
+use compared::named::{
+    also_named, built, counts, greatest, k, read, same_records, seed, sum, wrong_jobs_and_rounds,
+    wrong_lengths, wrong_marks, Case, Compared, Input, REFINE,
 };
 use compared::random::Random;
 use compared::renumber::renumbered;
-use compared::{tmb_build, tmb_check, tmb_refine};
+use compared::tmb_check;
 use second::mesh::{Mesh, Record, Vertex, NO_NUMBER};
-use second::{check, refine, refine_vec, selection, LARGEST_MESH, MOST_RECORDS, MOST_VERTICES};
+use second::{check, LARGEST_MESH, MOST_RECORDS, MOST_VERTICES};
 use std::io::Write;
 use std::sync::atomic::{AtomicUsize, Ordering};
 
@@ -21,85 +25,15 @@ const FEWEST_RANDOM: u64 = 24_000;
 const FEWEST_ACCEPTED: u64 = 10_000;
 const FEWEST_OF_EACH: u64 = 100;
 
-/// Bytes on both sides of the output buffer.
-const GUARD: usize = 64;
-
-/// What refine takes, but for the output buffer.
-#[derive(Clone, PartialEq)]
-struct Input {
-    mesh: Vec<u8>,
-    selection: Vec<u8>,
-}
-
-impl Input {
-    /// A selection for the mesh's own job and round.
-    fn new(mesh: &Mesh, numbers: &[u16]) -> Input {
-        Input::of(mesh, mesh.job, mesh.round, numbers)
-    }
-
-    fn of(mesh: &Mesh, job: u32, round: u16, numbers: &[u16]) -> Input {
-        Input {
-            mesh: mesh.bytes(),
-            selection: selection(job, round, numbers),
-        }
-    }
-
-    /// With some bytes of the selection replaced.
-    fn poked(&self, at: usize, new: &[u8]) -> Input {
-        let mut other = self.clone();
-        other.selection[at..at + new.len()].copy_from_slice(new);
-        other
-    }
-}
-
-/// Bytes of any kind.
-fn junk(random: &mut Random, length: usize) -> Vec<u8> {
-    let mut bytes = Vec::with_capacity(length + 8);
-    while bytes.len() < length {
-        bytes.extend(random.number().to_le_bytes());
-    }
-    bytes.truncate(length);
-    bytes
-}
-
-fn read(bytes: &[u8]) -> Mesh {
-    Mesh::read(bytes).expect("a stored mesh")
-}
-
 /// "1,024 vertices or 3,072 records".
 const MOST: [usize; 2] = [MOST_VERTICES, MOST_RECORDS];
-
-/// Vertices and records.
-fn counts(mesh: &Mesh) -> [usize; 2] {
-    [mesh.vertices.len(), mesh.records.len()]
-}
-
-/// What a record is in any numbering: its corners' places; its marks; its refinement edge, flag and
-/// generation; whether it is a leaf.
-type Unnumbered = ([Option<[i16; 3]>; 4], [u8; 4], [u8; 3], bool);
-
-fn unnumbered(mesh: &Mesh) -> Vec<Unnumbered> {
-    let told = |record: &Record| {
-        let places = record.corners.map(|corner| mesh.place(corner));
-        let others = [record.edge, record.flag, record.generation];
-        (places, record.marks, others, record.is_leaf())
-    };
-    mesh.records.iter().map(told).collect()
-}
 
 /// What was compared.
 #[derive(Default)]
 struct Tally {
-    inputs: u64,
-    /// Those of them that are random.
+    both: Compared,
+    /// Those of the inputs that are random.
     random: u64,
-    calls: u64,
-    /// Inputs by the number given where the output buffer is long enough, and by 20 where it is not.
-    numbers: [u64; 21],
-    /// Calls by output buffer: 0, one less than the result, the result, full-size, longer.
-    rooms: [u64; 5],
-    /// Calls given 11 to 19 with an output buffer shorter than any result: 20 comes last.
-    before_20: u64,
     /// Inputs that break several of the rules 11 to 19.
     at_once: u64,
     /// Accepted inputs in which more was cut than was named.
@@ -121,8 +55,7 @@ struct Tally {
 }
 
 impl Tally {
-    /// Compares the two refines with one output buffer, filled with junk before the call, guard bytes
-    /// on both sides. Gives the number and the buffer.
+    /// One input with one output buffer.
     fn call(
         &mut self,
         name: &str,
@@ -130,80 +63,19 @@ impl Tally {
         room: usize,
         random: &mut Random,
     ) -> (u32, Vec<u8>) {
-        // Not always at the same alignment.
-        let before = GUARD + random.below(8);
-        let whole = junk(random, before + room + GUARD);
-        let (mut proved, mut second) = (whole.clone(), whole.clone());
-        let given = input.clone();
-        let part = before..before + room;
-        let number = tmb_refine(&given.mesh, &given.selection, &mut proved[part.clone()]);
-        assert!(given == *input, "{name}: inputs are only read");
-        let wanted = refine(&input.mesh, &input.selection, &mut second[part.clone()]);
-        if number != wanted || proved != second {
-            let folder = env!("CARGO_TARGET_TMPDIR");
-            for (file, bytes) in [("mesh", &input.mesh), ("selection", &input.selection)] {
-                std::fs::write(format!("{folder}/differs.{file}"), bytes).expect("it is written");
-            }
-            let at = (0..whole.len()).find(|&at| proved[at] != second[at]);
-            panic!(
-                "{name}, {room} bytes: proved {number}, second {wanted}, first different byte {:?} \
-                 (guard bytes are below 0 or from {room}); the inputs are {folder}/differs.*",
-                at.map(|at| at as i64 - before as i64)
-            );
-        }
-        // Also without the second program.
-        assert_eq!(proved[..before], whole[..before], "{name}: guard bytes");
-        assert_eq!(proved[part.end..], whole[part.end..], "{name}: guard bytes");
-        self.calls += 1;
-        (number, proved[part].to_vec())
+        self.both.call(&REFINE, name, input, room, random)
     }
 
-    /// One input with output buffers of 0, one less than the result, the result, full-size and longer;
-    /// a longer mesh only with the result's and another of them. Gives the result, or the number where
-    /// the buffer is long enough.
+    /// One input with several output buffers. Gives the result, or the number where the buffer is long
+    /// enough.
     fn compare(&mut self, name: &str, input: &Input, random: &mut Random) -> Result<Vec<u8>, u32> {
-        // Where there is no result every buffer gets one answer: the lengths are those of the mesh.
-        let length =
-            refine_vec(&input.mesh, &input.selection).map_or(input.mesh.len(), |r| r.len());
-        let longer = LARGEST_MESH + 1 + random.below(2_000);
-        let rooms = [0, length.saturating_sub(1), length, LARGEST_MESH, longer];
-        let other = [0, 1, 3, 4][random.below(4)];
-        let short = input.mesh.len() < 200;
-        let mut answer = None;
-        let mut result = Vec::new();
-        let mut too_short = false;
-        for kind in (0..5).filter(|&kind| short || kind == 2 || kind == other) {
-            let room = rooms[kind];
-            let (number, out) = self.call(name, input, room, random);
-            self.rooms[kind] += 1;
-            if number == 0 {
-                assert!(out[length..].iter().all(|&byte| byte == 0), "{name}: zero");
-            } else {
-                assert!(out.iter().all(|&byte| byte == 0), "{name}: zero throughout");
-            }
-            self.before_20 += u64::from((11..20).contains(&number) && room < length);
-            if number == 20 {
-                assert!(room < length, "{name}: 20 in {room} bytes");
-                too_short = true;
-            } else {
-                let earlier = *answer.get_or_insert(number);
-                assert_eq!(number, earlier, "{name}: one number in every long buffer");
-            }
-            if number == 0 && kind == 2 {
-                self.judge(name, input, &out);
-                result = out;
-            }
+        let answer = self.both.compare(&REFINE, name, input, random);
+        match &answer {
+            Ok(result) => self.judge(name, input, result),
+            Err(19) => self.rounds_to_19 += u64::from(read(&input.mesh).round > 0),
+            Err(_) => {}
         }
-        let answer = answer.expect("a buffer that is long enough");
-        assert!(!too_short || answer == 0, "{name}: 20 comes last");
-        self.inputs += 1;
-        self.numbers[answer as usize] += 1;
-        self.numbers[20] += u64::from(too_short);
-        self.rounds_to_19 += u64::from(answer == 19 && read(&input.mesh).round > 0);
-        match answer {
-            0 => Ok(result),
-            number => Err(number),
-        }
+        answer
     }
 
     /// Whatever refine accepts, check accepts, with the volume that was there and no deeper than may be;
@@ -219,10 +91,7 @@ impl Tally {
         assert_eq!(new.base_vertices, old.base_vertices, "{name}");
         assert_eq!(new.base_records, old.base_records, "{name}");
         assert!(new.vertices.starts_with(&old.vertices), "{name}: vertices");
-        let named: Vec<usize> = input.selection[13..]
-            .chunks_exact(2)
-            .map(|two| usize::from(u16::from_le_bytes([two[0], two[1]])))
-            .collect();
+        let named: Vec<usize> = input.numbers().into_iter().map(usize::from).collect();
         // "No piece is deeper than the least multiple of three that reaches both the deepest piece
         // before and the children of the selected ones."
         let generations = named.iter().map(|&number| old.records[number].generation);
@@ -262,6 +131,13 @@ impl Tally {
         assert_eq!(answer, number, "{name}");
     }
 
+    /// So must each of these.
+    fn all_given(&mut self, cases: Vec<Case>, random: &mut Random) {
+        for (name, input, number) in cases {
+            self.given(name, &input, number, random);
+        }
+    }
+
     /// The input must be accepted, by both: the refined mesh.
     fn accepted(&mut self, name: &str, input: &Input, random: &mut Random) -> Mesh {
         match self.compare(name, input, random) {
@@ -273,24 +149,15 @@ impl Tally {
     /// What was accepted is accepted in another numbering too, with the parents below made vertices and
     /// the children in adjacent pairs above their parent, else in no order of refine's. The same is cut.
     fn also_renumbered(&mut self, mesh: &Mesh, numbers: &[u16], finer: &Mesh, random: &mut Random) {
-        let records = unnumbered(mesh);
-        let named = |record: &Unnumbered| {
-            let mut numbers = numbers.iter();
-            numbers.any(|&number| records[usize::from(number)] == *record)
-        };
         let other = renumbered(mesh, random);
-        let others = (0..).zip(unnumbered(&other));
-        let others = others.filter(|(_, record)| named(record));
-        let others: Vec<u16> = others.map(|(number, _)| number).collect();
-        // Pieces may overlap: where records are alike, nothing tells which of them is named.
-        if others.len() != numbers.len() {
+        let Some(others) = also_named(mesh, numbers, &other) else {
             return;
-        }
+        };
         let other = self.accepted("renumbered", &Input::new(&other, &others), random);
-        let [mut wanted, mut cut] = [finer, &other].map(unnumbered);
-        wanted.sort_unstable();
-        cut.sort_unstable();
-        assert!(cut == wanted, "renumbered: something else is cut");
+        assert!(
+            same_records(finer, &other),
+            "renumbered: something else is cut"
+        );
         self.renumbered += u64::from(mesh.records.len() > mesh.base_records);
     }
 
@@ -314,23 +181,14 @@ impl Tally {
     }
 
     fn add(&mut self, other: &Tally) {
-        let sum = |mine: &mut [u64], theirs: &[u64]| {
-            mine.iter_mut()
-                .zip(theirs)
-                .for_each(|(mine, theirs)| *mine += theirs);
-        };
-        self.inputs += other.inputs;
+        self.both.add(&other.both);
         self.random += other.random;
-        self.calls += other.calls;
-        self.before_20 += other.before_20;
         self.at_once += other.at_once;
         self.closed += other.closed;
         self.deeper += other.deeper;
         self.deepest += other.deepest;
         self.renumbered += other.renumbered;
         self.rounds_to_19 += other.rounds_to_19;
-        sum(&mut self.numbers, &other.numbers);
-        sum(&mut self.rooms, &other.rooms);
         sum(&mut self.full, &other.full);
         for (mine, theirs) in self.closings.iter_mut().zip(&other.closings) {
             sum(mine, theirs);
@@ -371,27 +229,6 @@ const RANDOM: [(Part, usize); 8] = [
     (wrong_selections, 110),
     (damaged_meshes, 300),
 ];
-
-/// Built by the proved build.
-fn built(plain: &Plain, job: u32) -> Mesh {
-    let mut out = vec![255; 20 + 10 * plain.places.len() + 17 * plain.pieces.len()];
-    let number = tmb_build(
-        job,
-        &plain.places.concat(),
-        &plain.pieces.concat(),
-        &mut out,
-    );
-    assert_eq!(number, 0, "a plain mesh");
-    read(&out)
-}
-
-fn k() -> Mesh {
-    let plain = Plain {
-        places: K.to_vec(),
-        pieces: vec![[0, 1, 2, 3]],
-    };
-    built(&plain, 7)
-}
 
 /// The rows of "A piece worked by hand" that refine K.
 fn worked(tally: &mut Tally, random: &mut Random) {
@@ -466,16 +303,7 @@ fn selection_lengths(tally: &mut Tally, random: &mut Random) {
     let cube = built(&cubes([1, 1, 1], 64), 3);
     let good = Input::new(&cube, &[0, 2]);
     tally.accepted("two numbers", &good, random);
-    for length in 0..=30 {
-        let mut other = good.clone();
-        other.selection.resize(length, 0);
-        let number = if length == 17 { 0 } else { 11 };
-        tally.given("another length", &other, number, random);
-    }
-    for count in [0, 1, 3, 258, 32_770, 65_535] {
-        let other = good.poked(11, &u16::to_le_bytes(count));
-        tally.given("another count", &other, 11, random);
-    }
+    tally.all_given(wrong_lengths(&good), random);
     tally.accepted("none", &Input::new(&cube, &[]), random);
     let other = Input::new(&cube, &[]).poked(0, b"xxx");
     tally.given("a wrong mark", &other, 12, random);
@@ -486,53 +314,13 @@ fn greatest_selections(tally: &mut Tally, random: &mut Random) {
     let cube = built(&cubes([1, 1, 1], 64), 3);
     let cut = tally.accepted("the cube", &Input::new(&cube, &[0]), random);
     for mesh in [&cube, &cut] {
-        let last = mesh.records.len() as u16 - 1;
-        for numbers in [
-            (0..65_535).collect(),
-            (1..=65_535).collect(),
-            vec![last; 65_535],
-            vec![65_535; 65_535],
-            (0..65_535).rev().collect(),
-        ] {
-            let many = Input::new(mesh, &numbers);
-            tally.given("65,535 numbers", &many, 15, random);
-            let version = many.poked(3, &[2]);
-            tally.given("65,535 numbers, a wrong version", &version, 12, random);
-            let mut other = many.clone();
-            other.selection.truncate(13 + 2 * 65_534);
-            tally.given("a number less than 65,535", &other, 11, random);
-            other.selection.push(255);
-            tally.given("a byte less than 65,535 numbers", &other, 11, random);
-            let mut other = many.clone();
-            other.selection.push(255);
-            tally.given("a byte more than 65,535 numbers", &other, 11, random);
-            other.selection.push(255);
-            tally.given("a number more than 65,535", &other, 11, random);
-            // 65,536 is 0 in two bytes, and a count of 0 has no numbers.
-            let none = other.poked(11, &[0, 0]);
-            tally.given("65,536 numbers, a count of 0", &none, 11, random);
-        }
-        for numbers in [&[last][..], &[last - 1, last], &[]] {
-            let counted = Input::new(mesh, numbers).poked(11, &[255, 255]);
-            tally.given("a count of 65,535", &counted, 11, random);
-            let with = [numbers, &[65_535]].concat();
-            tally.given("65,535 named", &Input::new(mesh, &with), 15, random);
-            let below = [numbers, &[65_534]].concat();
-            tally.given("65,534 named", &Input::new(mesh, &below), 15, random);
-        }
+        tally.all_given(greatest(mesh), random);
     }
 }
 
 /// 12: each byte of the mark and of the version.
 fn selection_marks(tally: &mut Tally, random: &mut Random) {
-    let good = Input::new(&k(), &[0]);
-    for at in 0..5 {
-        for bit in 0..8 {
-            let other = good.poked(at, &[good.selection[at] ^ 1 << bit]);
-            tally.given("mark or version", &other, 12, random);
-        }
-    }
-    tally.given("a mesh's mark", &good.poked(0, b"TMB"), 12, random);
+    tally.all_given(wrong_marks(&Input::new(&k(), &[0])), random);
 }
 
 /// 13 and 14, each byte of the job and of the round; 18.
@@ -540,21 +328,7 @@ fn jobs_and_rounds(tally: &mut Tally, random: &mut Random) {
     let mut mesh = k();
     for round in [0, 1, 255, 256, 65_534] {
         mesh.round = round;
-        for bit in 0..32 {
-            let job = mesh.job ^ 1 << bit;
-            tally.given(
-                "another job",
-                &Input::of(&mesh, job, round, &[0]),
-                13,
-                random,
-            );
-            let both = Input::of(&mesh, job, round + 1, &[0]);
-            tally.given("another job and round", &both, 13, random);
-        }
-        for bit in 0..16 {
-            let other = Input::of(&mesh, mesh.job, round ^ 1 << bit, &[0]);
-            tally.given("another round", &other, 14, random);
-        }
+        tally.all_given(wrong_jobs_and_rounds(&mesh, &[0]), random);
         let finer = tally.accepted("its own", &Input::new(&mesh, &[0]), random);
         assert_eq!(finer.round, round + 1);
     }
@@ -898,7 +672,7 @@ fn rounds(tally: &mut Tally, mut mesh: Mesh, random: &mut Random) {
         let input = Input::new(&mesh, &numbers);
         for _ in 0..4 {
             tally
-                .compare("bytes replaced", &bytes_replaced(&input, random), random)
+                .compare("bytes replaced", &input.bytes_replaced(random), random)
                 .ok();
         }
         match tally.compare("a round", &input, random) {
@@ -920,29 +694,6 @@ fn rounds(tally: &mut Tally, mut mesh: Mesh, random: &mut Random) {
             return;
         }
     }
-}
-
-/// Some bytes of the mesh or of the selection replaced, or an end taken or added.
-fn bytes_replaced(input: &Input, random: &mut Random) -> Input {
-    let mut other = input.clone();
-    let bytes = match random.below(2) {
-        0 => &mut other.mesh,
-        _ => &mut other.selection,
-    };
-    match random.below(8) {
-        0 => bytes.truncate(random.below(bytes.len())),
-        1 => bytes.push(random.number() as u8),
-        2 => bytes.extend([random.number() as u8, 0]),
-        _ => {
-            for _ in 0..1 + random.below(3) {
-                let at = random.below(bytes.len());
-                let flipped = bytes[at] ^ 1 << random.below(8);
-                bytes[at] =
-                    [flipped, random.below(8) as u8, random.number() as u8][random.below(3)];
-            }
-        }
-    }
-    other
 }
 
 /// K and cubes, built by the proved build and refined.
@@ -1089,7 +840,7 @@ fn damaged_meshes(tally: &mut Tally, random: &mut Random) {
         let mut input = Input::new(&other, &chosen_anyhow(&mesh, random));
         if random.one_in(3) {
             input = Input {
-                selection: bytes_replaced(&input, random).selection,
+                selection: input.bytes_replaced(random).selection,
                 ..input
             };
         }
@@ -1098,13 +849,6 @@ fn damaged_meshes(tally: &mut Tally, random: &mut Random) {
         if number != 0 {
             assert_eq!(answer, Err(number), "{name}");
         }
-    }
-}
-
-fn seed() -> u64 {
-    match std::env::var("COMPARED_SEED") {
-        Ok(text) => text.parse().expect("COMPARED_SEED is a number"),
-        Err(_) => 20_261_115,
     }
 }
 
@@ -1125,10 +869,10 @@ fn the_proved_refine_and_the_second_agree() {
             };
             // The same numbers whichever thread takes the task.
             let mut random = Random::new(seed ^ (number as u64 + 1) << 32);
-            let before = tally.inputs;
+            let before = tally.both.inputs;
             part(&mut tally, &mut random);
             if number >= LISTED.len() {
-                tally.random += tally.inputs - before;
+                tally.random += tally.both.inputs - before;
             }
         }
     };
@@ -1143,23 +887,25 @@ fn the_proved_refine_and_the_second_agree() {
         }
     });
 
+    let both = &tally.both;
+    let numbers = &both.numbers[..=20];
     // Not by println, which a passing test keeps to itself.
     let mut out = std::io::stdout().lock();
     let mut line = |text: String| writeln!(out, "refine compared: {text}").expect("a line");
     line(format!(
         "seed {seed} (COMPARED_SEED), {} inputs, {} of them random, {} calls",
-        tally.inputs, tally.random, tally.calls
+        both.inputs, tally.random, both.calls
     ));
-    for (number, times) in tally.numbers.iter().enumerate() {
+    for (number, times) in numbers.iter().enumerate() {
         line(format!("number {number}: {times}"));
     }
     line(format!(
         "buffers of 0, one less, the result, full-size, longer {:?}",
-        tally.rooms
+        both.rooms
     ));
     line(format!(
         "buffers shorter than any result, and 11 to 19: {}",
-        tally.before_20
+        both.before_20
     ));
     line(format!("several of 11 to 19 broken in {}", tally.at_once));
     line(format!("more cut than named in {}", tally.closed));
@@ -1178,14 +924,14 @@ fn the_proved_refine_and_the_second_agree() {
     ));
     line(format!("19 after earlier rounds: {}", tally.rounds_to_19));
 
-    assert!(tally.inputs >= FEWEST);
+    assert!(both.inputs >= FEWEST);
     assert!(tally.random >= FEWEST_RANDOM);
-    assert!(tally.numbers[0] >= FEWEST_ACCEPTED);
-    for (number, &times) in tally.numbers.iter().enumerate() {
+    assert!(numbers[0] >= FEWEST_ACCEPTED);
+    for (number, &times) in numbers.iter().enumerate() {
         assert!(times >= FEWEST_OF_EACH, "number {number}: {times} times");
     }
-    assert!(tally.rooms.iter().all(|&times| times >= 1_000));
-    assert!(tally.before_20 >= 1_000);
+    assert!(both.rooms.iter().all(|&times| times >= 1_000));
+    assert!(both.before_20 >= 1_000);
     assert!(tally.at_once >= 500);
     assert!(tally.closed >= 3_000);
     assert!(tally.deeper >= 500);

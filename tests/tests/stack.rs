@@ -3,7 +3,7 @@
 
 use compared::meshes::{cubes, filled, full_base, open_leaves, separate};
 use compared::random::Random;
-use compared::{tmb_build, tmb_check, tmb_list, tmb_refine};
+use compared::{tmb_build, tmb_check, tmb_list, tmb_refine, tmb_take_back};
 use second::selection;
 
 /// What docs/tmb.h promises, and 32 KiB for the thread itself.
@@ -40,9 +40,17 @@ fn the_services_take_no_more_than_a_quarter_of_a_mebibyte() {
     let mesh = cubes([5, 5, 5], 64).built(1);
     let chosen = selection(mesh.job, mesh.round, &open_leaves(&mesh));
     let bytes = mesh.bytes();
+    let (number, finer) = with_little_stack(move || {
+        let mut out = vec![0; 41_680];
+        (tmb_refine(&bytes, &chosen, &mut out), out)
+    });
+    assert_eq!(number, 0);
+    // Its 750 base records are cut.
+    let cut: Vec<u16> = (0..750).collect();
+    let request = selection(mesh.job, mesh.round + 1, &cut);
     let mut out = vec![0; 62_484];
     assert_eq!(
-        with_little_stack(move || tmb_refine(&bytes, &chosen, &mut out)),
+        with_little_stack(move || tmb_take_back(&finer, &request, &mut out)),
         0
     );
 }

@@ -187,6 +187,16 @@ pub fn refined(mesh: &[u8], numbers: &[u16]) -> Vec<u8> {
     second::refine_vec(mesh, &chosen(mesh, numbers)).unwrap()
 }
 
+/// Cuts taken back by the second program.
+pub fn taken_back(mesh: &[u8], numbers: &[u16]) -> Vec<u8> {
+    second::take_back_vec(mesh, &chosen(mesh, numbers)).unwrap()
+}
+
+/// K refined by 0 and then by 1 and 2: records 0, 1 and 2 are cut.
+pub fn k2() -> Vec<u8> {
+    refined(&k1(), &[1, 2])
+}
+
 /// A changed mesh.
 pub fn changed(mesh: &[u8], change: impl FnOnce(&mut Mesh)) -> Vec<u8> {
     let mut mesh = Mesh::read(mesh).unwrap();

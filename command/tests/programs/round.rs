@@ -1,5 +1,5 @@
-//! A round on K with what an installation has: build, refine, check, list, and the used selection again.
-//! The functions are declared as tmb.h has them.
+//! A round on K with what an installation has: build, refine, check, list, the cut taken back, and the used
+//! selection again. The functions are declared as tmb.h has them.
 
 #[repr(C)]
 struct Report {
@@ -36,6 +36,14 @@ extern "C" {
         out: *mut u8,
         room: usize,
     ) -> u32;
+    fn tmb_take_back(
+        mesh: *const u8,
+        mesh_length: usize,
+        request: *const u8,
+        request_length: usize,
+        out: *mut u8,
+        room: usize,
+    ) -> u32;
     fn tmb_list(mesh: *const u8, mesh_length: usize, out: *mut u8, room: usize) -> Listed;
 }
 
@@ -45,11 +53,19 @@ fn refine(mesh: &[u8], selection: &[u8], out: &mut [u8]) -> u32 {
     unsafe { tmb_refine(from, mesh.len(), chosen, selection.len(), to, out.len()) }
 }
 
+fn take_back(mesh: &[u8], request: &[u8], out: &mut [u8]) -> u32 {
+    let (from, named, to) = (mesh.as_ptr(), request.as_ptr(), out.as_mut_ptr());
+    // SAFETY: the pointers and the lengths are those of slices; the third overlaps neither other.
+    unsafe { tmb_take_back(from, mesh.len(), named, request.len(), to, out.len()) }
+}
+
 fn main() {
     let places: [i16; 12] = [0, 0, 0, 64, 0, 0, 64, 64, 0, 64, 64, 64];
     let piece: [u16; 4] = [0, 1, 2, 3];
     // Record 0, selected for job 7 and round 0.
     let selected = *b"TMS\x01\0\x07\0\0\0\0\0\x01\0\0\0";
+    // The same record, named for job 7 and round 1: to be taken back.
+    let named = *b"TMS\x01\0\x07\0\0\0\x01\0\x01\0\0\0";
     let (mut built, mut refined, mut again) = ([0; 77], [0; 121], vec![0; 62_484]);
     // SAFETY: the pointers and the lengths are those of arrays; the third overlaps neither other.
     let number = unsafe {
@@ -76,5 +92,6 @@ fn main() {
         tmb_list(from, refined.len(), to, text.len())
     };
     println!("list {number} length {length}");
+    println!("take back {}", take_back(&refined, &named, &mut again));
     println!("refine {}", refine(&refined, &selected, &mut again));
 }

@@ -71,7 +71,7 @@ module _ (s : List ℕ) where
 -- ---- a mesh's bytes
 
 -- They are as many as its header says, where its tables have as many entries as it says.
-mesh-as-long : (m : Mesh) → length (m .vertices) ≡ m .header .vertices → length (m .records) ≡ m .header .records →
+pub mesh-as-long : (m : Mesh) → length (m .vertices) ≡ m .header .vertices → length (m .records) ≡ m .header .records →
     length (meshBytes m) ≡ meshLength (m .header .vertices) (m .header .records)
 unfolding meshBytes
 mesh-as-long m v r =
@@ -85,7 +85,7 @@ mesh-as-long m v r =
     (ap₂ meshLength v r)
 
 -- Its header is read again, whatever stands past the mesh.
-header-first : (m : Mesh) → HeaderFits (m .header) → (rest : List ℕ) → headerOf (meshBytes m ++ rest) ≡ m .header
+pub header-first : (m : Mesh) → HeaderFits (m .header) → (rest : List ℕ) → headerOf (meshBytes m ++ rest) ≡ m .header
 unfolding meshBytes
 header-first m f rest =
     let v = joined vertexBytes (m .vertices) in

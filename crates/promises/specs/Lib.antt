@@ -1,2 +1,3 @@
 -- What the user asked of each C function's answer.
 pub mod Promises
+pub mod TakeBack

@@ -4,6 +4,7 @@ use check_refusals::Report;
 use list_service::Listed;
 ghost use lib.ListN.{length};
 ghost use Rattle.promises.specs.Promises.{EachI16, CheckPromise, BuildPromise, RefinePromise, ListPromise};
+ghost use Rattle.promises.specs.TakeBack.{TakeBackPromise};
 
 pub fn check(mesh: &[u8]) -> Report
     ensures { λ r. ⌜ CheckPromise (now (mesh .entry)) r ⌝ }
@@ -33,6 +34,12 @@ pub fn refine<'a>(mesh: &'a [u8], selection: &'a [u8], out: &mut [u8]) -> u32
     ensures { λ r. ⌜ RefinePromise (now (mesh .entry)) (now (selection .entry)) (length (now (out .entry))) r (now (out .exit)) ⌝ }
 {
     station::tmb_refine(mesh, selection, out)
+}
+
+pub fn take_back<'a>(mesh: &'a [u8], request: &'a [u8], out: &mut [u8]) -> u32
+    ensures { λ r. ⌜ TakeBackPromise (now (mesh .entry)) (now (request .entry)) (length (now (out .entry))) r (now (out .exit)) ⌝ }
+{
+    station::tmb_take_back(mesh, request, out)
 }
 
 pub fn list(mesh: &[u8], out: &mut [u8]) -> Listed

@@ -91,7 +91,7 @@ fn turn(
 }
 
 // One more at each number that the selection names, in a table that is empty at first, whatever stood in it.
-fn choose_named(chosen: &mut [u16], selection: &[u8], count: usize)
+pub fn choose_named(chosen: &mut [u16], selection: &[u8], count: usize)
     ensures { λ _. ⌜ now (chosen .exit) ≡ tableOf (length (now (chosen .entry))) (now (selection .entry)) count ⌝ }
 {
     chains::clear(chosen);

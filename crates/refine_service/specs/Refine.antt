@@ -33,9 +33,13 @@ refineSelectionRows m selection =
     selectionRows (m .header) selection
     ++ (row 16 (namesCut (m .recordAt) count (namedIn selection)) ∷ row 17 (namesLast (m .recordAt) count (namedIn selection)) ∷ roundRow (m .header) ∷ [])
 
+-- 20: "the output buffer is shorter than the result", a mesh with this header
+abbrev pub roomRow : Header → ℕ → Row
+roomRow h room = row 20 (ltb room (meshLength (h .vertices) (h .records)))
+
 -- Refusals 19 and 20, of the header after all passes and the output buffer's length.
 unfoldable pub resultRows : Header → ℕ → List Row
-resultRows h room = row 19 (exceeds limits h) ∷ row 20 (ltb room (meshLength (h .vertices) (h .records))) ∷ []
+resultRows h room = row 19 (exceeds limits h) ∷ roomRow h room ∷ []
 
 -- "Refine gives 1 to 20": 1 to 10 are check's own.
 unfoldable pub refineNumber : List ℕ → List ℕ → ℕ → ℕ

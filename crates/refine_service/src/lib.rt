@@ -15,7 +15,7 @@ ghost use Rattle.refine_service.specs.Order.{selectionNumber, namedNumbe
 ghost use Rattle.refine_service.specs.Storing.{Assembled, Copied, storedNumber, storedBytes, laterNumber, laterBytes};
 
 // Refusals 1 to 10 are check's own.
-fn judged(mesh: &[u8]) -> u32
+pub fn judged(mesh: &[u8]) -> u32
     ensures { λ r. ⌜ r ≡ checkNumber (now (mesh .entry)) ⌝ }
 {
     let report = check_service::verdict(mesh);

@@ -5,6 +5,7 @@ ghost use lib.ListN.{length};
 ghost use Rattle.check_refusals.specs.Check.{CheckOutcomeIs};
 ghost use Rattle.build_service.specs.Build.{BuildOutcomeIs};
 ghost use Rattle.refine_service.specs.Refine.{RefineOutcomeIs};
+ghost use Rattle.takeback_service.specs.TakeBack.{TakeBackOutcomeIs};
 ghost use Rattle.list_service.specs.Listing.{ListOutcomeIs};
 
 #[no_mangle]
@@ -26,6 +27,13 @@ pub extern "C" fn tmb_refine<'a>(mesh: &'a [u8], selection: &'a [u8], out: &mut 
     ensures { λ r. ⌜ RefineOutcomeIs (now (mesh .entry)) (now (selection .entry)) (length (now (out .entry))) r (now (out .exit)) ⌝ }
 {
     refine_service::refine(mesh, selection, out)
+}
+
+#[no_mangle]
+pub extern "C" fn tmb_take_back<'a>(mesh: &'a [u8], request: &'a [u8], out: &mut [u8]) -> u32
+    ensures { λ r. ⌜ TakeBackOutcomeIs (now (mesh .entry)) (now (request .entry)) (length (now (out .entry))) r (now (out .exit)) ⌝ }
+{
+    takeback_service::take_back(mesh, request, out)
 }
 
 #[no_mangle]

@@ -7,7 +7,17 @@ use stored::Vertex;
 ghost use mathlib.Core.Path.{_≡_};
 ghost use Prim.Native.Nat.{_+_};
 ghost use lib.Seq.{sets};
-ghost use Rattle.stored.specs.Layout.{baseInto, grownInto, vertexBytes, recordBytes, vertexPart, recordPart, assembled};
+ghost use Rattle.stored.specs.Layout.{
+  baseInto,
+  grownInto,
+  headerBytes,
+  vertexBytes,
+  recordBytes,
+  meshLength,
+  vertexPart,
+  recordPart,
+  assembled,
+};
 
 // An entry's bytes, written from the table's beginning and the entry's place on.
 fn put_from(s: &mut [u8], from: usize, at: usize, bytes: &[u8])
@@ -68,6 +78,39 @@ pub fn put_mesh(out: &mut [u8], h: Header, vertices: &[u8], records: &[u8])
     slices_written::put(out, 0, &header);
     put_from(out, stored::HEADER_WIDTH, 0, first);
     put_from(out, stored::HEADER_WIDTH, first.len(), then);
+}
+
+// A mesh that is written entry by entry: its header, one vertex more behind the header and so many vertices, one record more behind so many
+// vertices and so many records.
+pub fn put_header(out: &mut [u8], h: Header)
+    ensures { λ _. ⌜ now (out .exit) ≡ sets (now (out .entry)) 0 (headerBytes h) ⌝ }
+{
+    let bytes = stored_encoded::header_bytes(h);
+    slices_written::put(out, 0, &bytes);
+}
+
+pub fn append_vertex(out: &mut [u8], vertices: u32, v: Vertex)
+    ensures { λ _. ⌜ now (out .exit) ≡ sets (now (out .entry)) (meshLength vertices 0) (vertexBytes v) ⌝ }
+{
+    let bytes = stored_encoded::vertex_bytes(v);
+    put_from(
+        out,
+        stored::HEADER_WIDTH,
+        stored::VERTEX_WIDTH * (vertices as usize),
+        &bytes,
+    );
+}
+
+pub fn append_record(out: &mut [u8], vertices: u32, records: u32, r: Record)
+    ensures { λ _. ⌜ now (out .exit) ≡ sets (now (out .entry)) (meshLength vertices records) (recordBytes r) ⌝ }
+{
+    let bytes = stored_encoded::record_bytes(r);
+    put_from(
+        out,
+        stored::HEADER_WIDTH + stored::VERTEX_WIDTH * (vertices as usize),
+        stored::RECORD_WIDTH * (records as usize),
+        &bytes,
+    );
 }
 
 // The vertices and the records of a stored mesh, each copied to the beginning of a slice of its own.

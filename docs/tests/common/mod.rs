@@ -1,5 +1,6 @@
 //! What the tests share: the layout of a stored mesh decoded once more, small meshes, a naive
-//! refine that can also go the four wrong ways, and a small source of random numbers.
+//! refine that can also go the four wrong ways, a naive take-back, and a small source of random
+//! numbers.
 #![allow(dead_code)]
 
 use std::collections::{BTreeMap, BTreeSet};
@@ -112,6 +113,28 @@ impl Stored {
             .collect()
     }
 
+    /// The numbers of the cut records, rising.
+    pub fn cut_records(&self) -> Vec<u16> {
+        (0..self.records.len() as u16)
+            .filter(|&n| self.records[n as usize].first_child != NONE)
+            .collect()
+    }
+
+    /// The numbers of the records cut at a made vertex, rising.
+    pub fn cut_at(&self, vertex: u16) -> Vec<u16> {
+        let [p, q] = self.vertices[vertex as usize].parents;
+        let mut cut = self.cut_records();
+        cut.retain(|&n| self.refinement_ends(n as usize) == (p, q));
+        cut
+    }
+
+    /// Whether both children of a cut record are leaves.
+    pub fn ready(&self, number: u16) -> bool {
+        let first = self.records[number as usize].first_child as usize;
+        let mut children = self.records[first..first + 2].iter();
+        children.all(|child| child.first_child == NONE)
+    }
+
     /// Sixfold volume of a record, by another formula than the program's: the four-by-four
     /// determinant with a column of ones.
     pub fn sixfold(&self, number: usize) -> u64 {
@@ -199,6 +222,11 @@ pub fn choose(mesh: &[u8], numbers: &[u16]) -> Vec<u8> {
 /// Refines by a selection for the mesh's own job and round.
 pub fn refined(mesh: &[u8], numbers: &[u16]) -> Vec<u8> {
     second::refine_vec(mesh, &choose(mesh, numbers)).expect("an accepted refinement")
+}
+
+/// Takes cuts back by a request for the mesh's own job and round.
+pub fn taken_back(mesh: &[u8], numbers: &[u16]) -> Vec<u8> {
+    second::take_back_vec(mesh, &choose(mesh, numbers)).expect("an accepted request")
 }
 
 /// Refines the deepest leaf (the first of them) until it has the wanted generation.
@@ -414,6 +442,48 @@ pub fn naive_refine(mesh: &[u8], selected: &[u16], way: Way) -> Stored {
 }
 
 // ---------------------------------------------------------------------------------------------
+// A naive take-back: vertex by vertex, and every number above what goes is lowered each time.
+
+/// What goes is judged on the mesh as given.
+pub fn naive_take_back(mesh: &[u8], named: &[u16]) -> Stored {
+    let mut stored = decode(mesh);
+    let goes = |&vertex: &u16| {
+        let mut cut = stored.cut_at(vertex).into_iter();
+        cut.all(|n| named.contains(&n) && stored.ready(n))
+    };
+    let made = stored.base_vertices..stored.vertices.len() as u16;
+    let away: Vec<u16> = made.filter(goes).collect();
+    stored.round += 1;
+    // The last first: those that are still to go keep their numbers.
+    for vertex in away.into_iter().rev() {
+        while let Some(&n) = stored.cut_at(vertex).first() {
+            uncut(&mut stored, n);
+        }
+        stored.vertices.remove(vertex as usize);
+        let made = stored.vertices[stored.base_vertices as usize..].iter_mut();
+        let parents = made.flat_map(|v| &mut v.parents);
+        let corners = stored.records.iter_mut().flat_map(|r| &mut r.corners);
+        for number in parents.chain(corners) {
+            assert_ne!(*number, vertex, "nothing that stays refers to it");
+            *number -= u16::from(*number > vertex);
+        }
+    }
+    stored
+}
+
+/// Makes a cut record a leaf and takes its two children out.
+fn uncut(stored: &mut Stored, number: u16) {
+    let first = stored.records[number as usize].first_child;
+    stored.records[number as usize].first_child = NONE;
+    stored.records.drain(first as usize..first as usize + 2);
+    for r in &mut stored.records {
+        if r.first_child != NONE && r.first_child > first {
+            r.first_child -= 2;
+        }
+    }
+}
+
+// ---------------------------------------------------------------------------------------------
 // Random numbers.
 
 /// A small source of random numbers (xorshift with a multiplication).
@@ -490,8 +560,8 @@ fn four_places(coordinates: &[i16], piece: [u16; 4]) -> Vec<i16> {
 /// Lengths of output buffers that no refusal but 20 may depend on.
 pub const LENGTHS: [usize; 6] = [0, 1, 19, 120, FULL, FULL + 1_000];
 
-/// Check, refine and list all refuse the mesh with that number; all that is returned and written
-/// besides is zero, and the inputs stand as they were.
+/// Check, refine, take-back and list all refuse the mesh with that number; all that is returned and
+/// written besides is zero, and the inputs stand as they were.
 pub fn mesh_refused(name: &str, mesh: &[u8], number: u32) {
     mesh_refused_at(name, mesh, number, (0, 0));
 }
@@ -514,27 +584,43 @@ pub fn mesh_refused_at(name: &str, mesh: &[u8], number: u32, place: (u64, u64)) 
     }
     for selection in [second::selection(job, round, &[]), vec![], vec![255; 13]] {
         refine_refused(name, mesh, &selection, number);
+        take_back_refused(name, mesh, &selection, number);
     }
     let listed = if mesh.len() > FULL { 1 } else { number };
     let line = format!("refused {listed}\n");
     assert_eq!(second::list(mesh), line.as_bytes(), "{name}");
 }
 
+/// A service that takes a mesh and a selection or a request: into a buffer, and as long as it has to be.
+type Into = fn(&[u8], &[u8], &mut [u8]) -> u32;
+type Whole = fn(&[u8], &[u8]) -> Result<Vec<u8>, u32>;
+
 /// Refine refuses with that number, whatever the length of the buffer; the buffer is zero
 /// throughout and the inputs stand as they were.
 pub fn refine_refused(name: &str, mesh: &[u8], selection: &[u8], number: u32) {
-    let before = (mesh.to_vec(), selection.to_vec());
+    let refine = (second::refine as Into, second::refine_vec as Whole);
+    refused_by(refine, name, mesh, selection, number);
+}
+
+/// The same of take-back.
+pub fn take_back_refused(name: &str, mesh: &[u8], request: &[u8], number: u32) {
+    let take_back = (second::take_back as Into, second::take_back_vec as Whole);
+    refused_by(take_back, name, mesh, request, number);
+}
+
+fn refused_by((into, whole): (Into, Whole), name: &str, mesh: &[u8], named: &[u8], number: u32) {
+    let before = (mesh.to_vec(), named.to_vec());
     for length in LENGTHS {
         let mut out = vec![0xAA; length];
-        let given = second::refine(mesh, selection, &mut out);
+        let given = into(mesh, named, &mut out);
         assert_eq!(given, number, "{name}, buffer of {length}");
         assert!(
             out.iter().all(|&byte| byte == 0),
             "{name}, buffer of {length}"
         );
     }
-    assert_eq!((mesh.to_vec(), selection.to_vec()), before, "{name}");
-    assert_eq!(second::refine_vec(mesh, selection), Err(number), "{name}");
+    assert_eq!((mesh.to_vec(), named.to_vec()), before, "{name}");
+    assert_eq!(whole(mesh, named), Err(number), "{name}");
 }
 
 /// Build refuses with that number, whatever the length of the buffer.

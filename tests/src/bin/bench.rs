@@ -1,16 +1,19 @@
-//! The time of the proved check, build and refine and of the second program's, in one run. Prints the tables of
-//! docs/BENCH.md as they stand there: medians in milliseconds, and the ratio. With `--plot FILE` it also writes
-//! the picture: the times of the last table against records.
+//! The time of the proved check, build, refine and take-back and of the second program's, in one run. Prints the
+//! tables of docs/BENCH.md as they stand there: medians in milliseconds, and the ratio. With `--plot FILE` it also
+//! writes the picture: the times of the last table against records.
 
 use compared::meshes::{
-    block, cubes, cubes_but_two, filled, full_base, ladder, open_leaves, refined, separate, Plain,
-    LADDER,
+    block, cubes, cubes_but_two, cut_records, filled, full_base, ladder, open_leaves, refined,
+    separate, Plain, LADDER,
 };
 use compared::plot::{svg, Mark, Series};
 use compared::random::Random;
-use compared::{tmb_build, tmb_check, tmb_refine};
+use compared::{tmb_build, tmb_check, tmb_refine, tmb_take_back};
 use second::mesh::Mesh;
-use second::{build, check, refine, refine_vec, selection, Report, LARGEST_MESH, MOST_RECORDS};
+use second::{
+    build, check, refine, refine_vec, selection, take_back, take_back_vec, Report, LARGEST_MESH,
+    MOST_RECORDS,
+};
 use std::env;
 use std::ffi::OsString;
 use std::fs;
@@ -34,6 +37,7 @@ fn main() -> ExitCode {
     checks();
     builds();
     refinements();
+    requests();
     let sizes = growth();
     match file.map(|file| fs::write(file, picture(&sizes))) {
         Some(Err(error)) => {
@@ -96,6 +100,22 @@ fn refinements() {
         &cubes([8, 8, 8], 64).built(1),
         &[],
     );
+}
+
+fn requests() {
+    head(
+        "Take-back",
+        "| mesh | named | records before | vertices after | records after | proved, ms | second, ms | ratio |",
+    );
+    let five = cubes([5, 5, 5], 64).built(1);
+    let finer = refined(&five, &open_leaves(&five)).expect("there is room");
+    let full = filled(separate(48).built(1), &mut Random::new(1));
+    let once = "5 by 5 by 5 cubes, refined once";
+    let tables = "48 pieces apart, refined until both tables are full";
+    for (name, mesh) in [(once, &finer), (tables, &full)] {
+        take_back_row(&format!("{name}, all"), mesh, &cut_records(mesh));
+        take_back_row(&format!("{name}, none"), mesh, &[]);
+    }
 }
 
 /// The last table: on each size two cubes are left out, so that on the largest too there is room to refine, and
@@ -196,6 +216,20 @@ fn refine_row(name: &str, mesh: &Mesh, numbers: &[u16]) {
     );
 }
 
+fn take_back_row(name: &str, mesh: &Mesh, numbers: &[u16]) {
+    let (bytes, request) = (mesh.bytes(), selection(mesh.job, mesh.round, numbers));
+    let result = take_back_vec(&bytes, &request).expect("accepted");
+    let coarser = Mesh::read(&result).expect("a stored mesh");
+    println!(
+        "| {name} | {} | {} | {} | {} | {} |",
+        numbers.len(),
+        mesh.records.len(),
+        coarser.vertices.len(),
+        coarser.records.len(),
+        take_back_times(&bytes, &request).cells()
+    );
+}
+
 /// The head of a table.
 fn head(title: &str, columns: &str) {
     let count = columns.matches('|').count() - 1;
@@ -266,6 +300,13 @@ fn refine_times(mesh: &[u8], selection: &[u8]) -> Times {
         written(|out| refine(black_box(mesh), black_box(selection), out))
     };
     Times::in_turn(|| run(tmb_refine), || run(refine))
+}
+
+fn take_back_times(mesh: &[u8], request: &[u8]) -> Times {
+    let run = |take_back: fn(&[u8], &[u8], &mut [u8]) -> u32| {
+        written(|out| take_back(black_box(mesh), black_box(request), out))
+    };
+    Times::in_turn(|| run(tmb_take_back), || run(take_back))
 }
 
 /// The time of a service that writes into a full-size buffer of bytes 255, and what stands in it afterwards.

@@ -1,25 +1,23 @@
--- Missing: takeback_remains in crates/ (nine.patch.txt). With it this was checked without a hole over its definitions; it gives TakenBackFrom for closedUp (tablesOf s), and goes above takeback_remains, in demands_taken_back or beside it.
 -- The tables that are left by the definitions of taking back are those of `FromTables`: what is left of a stored mesh by a good request is taken back.
 use mathlib.Core.Path.{_≡_, refl, sym, ap, _∙_}
-use mathlib.Core.Bool.{Bool, true, false, not, cond, _&&_, _||_}
-use mathlib.Core.Logic.{_⊎_, inl, inr, ⊎-elim, _↔_}
+use mathlib.Core.Bool.{Bool, true, false, _&&_}
+use mathlib.Core.Logic.{_⊎_, inl, inr, ⊎-elim}
 use mathlib.Core.List.{List}
 use Prim.Native.Nat.{ℕ, zero, suc, _+_, _≤_, _<_}
 use native.Mathlib.Omega.{arith}
 use lib.ListN.{length}
-use lib.Dec.{eqb, ltb, leb}
-use borrow.Author.Tests.{eqb-true, eq-eqb, ltb-true, lt-ltb, leb-true, lt-leb, leb-false, le-leb, not-true}
-use Rattle.laws.specs.Below.{either, and-left, and-right, or-second, or-true, anyBelow, any-is, any-where, countBelow}
+use lib.Dec.{eqb, ltb}
+use borrow.Author.Tests.{eqb-true, eq-eqb, ltb-true}
+use Rattle.laws.specs.Below.{and-left, anyBelow, any-is, any-where}
 use Rattle.laws_remaining.specs.Remaining.{oldBelow}
 use Rattle.piece.specs.Ends.{cornerAt}
-use Rattle.stored.specs.declared.Record.{Record}
 use Rattle.stored.specs.Layout.{none, meshBytes, namedIn}
 use Rattle.mesh_tables.specs.Tables as Check
-use Rattle.mesh_tables.specs.Tables.{tablesOf, baseVertices, allVertices, baseRecords, allRecords, uncut, isCut}
+use Rattle.mesh_tables.specs.Tables.{tablesOf, baseVertices, allVertices, baseRecords, allRecords, isCut}
 use Rattle.check_refusals.specs.Refusals.{isChildOf}
 use Rattle.check_meaning.specs.Tests.{Passes, reads, equal, below, and-passes, or-passes, not-passes, not-fails, at-most, and-fails}
 use Rattle.refine_selection.specs.Selected.{isNamed}
-use Rattle.takeback_remains.specs.Remains.{cutVertex, leafChildren, freed, holdsVertex, takenAway, vertexRemains, staysCut, recordRemains, renumbered, oldNumber, vertexAgain, recordAgain, closedUp}
+use Rattle.takeback_remains.specs.Remains.{cutVertex, leafChildren, freed, holdsVertex, takenAway, vertexRemains, staysCut, recordRemains, renumbered, vertexAgain, pieceAgain, recordAgain, closedUp}
 use Rattle.cuts.specs.LinkNames.{base-or-beyond}
 use Rattle.demands_words.specs.Words.{Numbering, StoredMesh, countIn}
 use Rattle.demands_proofs.specs.GrownStores.{meshFor}
@@ -27,7 +25,7 @@ use Rattle.demands_proofs.specs.FromStored as From
 use Rattle.demands_taken_back.specs.Words.{GoodRequestFor, TakenBackFrom}
 use Rattle.demands_taken_back.specs.ByNumbers.{NamedNumber, Holder, ParentStays, ByNumbers}
 use Rattle.demands_taken_back.specs.ByTables.{cut-is, first-is, cut-vertex}
-use Rattle.demands_taken_back.specs.TablesLeft.{NewNumber, VertexLeft, RecordLeft, TablesLeft}
+use Rattle.demands_taken_back.specs.TablesLeft.{NewNumber, TablesLeft}
 use Rattle.demands_taken_back.specs.FromTables.{tables-taken-back, tables-no-longer}
 
 -- What remains of tables is left of them, entry by entry.
@@ -35,8 +33,8 @@ new-number : (stays : ℕ → Bool) (x : ℕ) → NewNumber stays x (renumbered 
 unfolding renumbered
 new-number stays x = record { remains = λ t. rw t; gone = λ f. rw f }
 
-pub closed-left : (m : Check.Tables) (named : ℕ → Bool) → TablesLeft m (closedUp m named) (vertexRemains m named) (recordRemains m named)
-unfolding closedUp oldNumber oldBelow vertexAgain recordAgain
+closed-left : (m : Check.Tables) (named : ℕ → Bool) → TablesLeft m (closedUp m named) (vertexRemains m named) (recordRemains m named)
+unfolding closedUp oldBelow vertexAgain recordAgain pieceAgain renumbered
 closed-left m named =
     record {
       base-vertices = refl;
@@ -47,7 +45,7 @@ closed-left m named =
       recordAt = λ k h. record { four = refl; corner = corner k; edge = refl; marks = refl; flag = refl; generation = refl; first = new-number _ _ };
     }
   where
-    corner : (k j : ℕ) → j < 4 → NewNumber (vertexRemains m named) (cornerAt (m .recordAt (oldNumber (allRecords m) (recordRemains m named) k) .piece) j) (cornerAt (closedUp m named .recordAt k .piece) j)
+    corner : (k j : ℕ) → j < 4 → NewNumber (vertexRemains m named) (cornerAt (m .recordAt (oldBelow (allRecords m) (recordRemains m named) k) .piece) j) (cornerAt (closedUp m named .recordAt k .piece) j)
     corner k zero l = new-number _ _
     corner k (suc zero) l = new-number _ _
     corner k (suc (suc zero)) l = new-number _ _
@@ -139,9 +137,6 @@ module _ (s : List ℕ) (x : StoredMesh s) (request : List ℕ) (good : GoodRequ
       (λ (l, e). ⊎-elim (λ b. inl (omega (arith, b, holds .base-records))) inr e)
       (λ e. (omega (arith, h, holds .records), ⊎-elim (λ b. inl (omega (arith, b, holds .base-records))) inr e))
     where
-      test : ℕ → Bool
-      test n = isChildOf (m .recordAt n) c && staysCut m named n
-
       parents : Passes (anyBelow (allRecords m) (λ n. isChildOf (m .recordAt n) c && staysCut m named n)) (ParentStays (x .base) (x .cuts) N (cutVertex m) vertexStays c)
       parents = (
         λ t.
@@ -154,7 +149,7 @@ module _ (s : List ℕ) (x : StoredMesh s) (request : List ℕ) (good : GoodRequ
             (child-exactly c (a .parent) (a .there) .1 (a .is-cut, (a .stays, a .child))),
       )
 
-  pub by-numbers : ByNumbers (x .base) (x .cuts) N request (cutVertex m) (freed (m .recordAt) named) vertexStays recordStays
+  by-numbers : ByNumbers (x .base) (x .cuts) N request (cutVertex m) (freed (m .recordAt) named) vertexStays recordStays
   unfolding cutVertex
   by-numbers =
       record {

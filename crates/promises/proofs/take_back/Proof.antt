@@ -1,0 +1,18 @@
+-- `promises::take_back` meets its contract: a slice of u8 holds bytes.
+use native.Mathlib.Omega.{arith}
+use borrow.Author.Needs.{needs}
+use lib.ListN.{length}
+use Rattle.promises.specs.TakeBack.{take-back-promised}
+use Rattle.promises.proofs.take_back.Statement.{statement}
+use Rattle.promises.proofs.take_back.Tie as tie
+
+returns : tie.Need-returns
+returns c =
+    let a = c .before .before .before .before .before .before .before .args in
+    let called = c .before .before .tmb-take-back in
+    take-back-promised (a .mesh .now) (a .request .now) (length (a .out .now)) (called .result) (called .last .1 .1 .0)
+    (record { byte = λ k. omega (arith, c .before .before .before .before .before .before .shared-slice-known .given k) })
+    (called .ensures)
+
+pub take-back-spec : {M : Type 1} → statement M
+take-back-spec = tie.close (tie.spec (λ c κs. search needs) (λ c. search needs) returns)

@@ -1,0 +1,1 @@
+// What taking cuts back means; specs alone.

@@ -1,0 +1,111 @@
+-- Demand 1 of taking cuts back: "Every byte string and every length of buffer gets either a mesh or a numbered refusal. [..] After a refusal the output buffer is
+-- all zeros". `MeshIn` is in `demands/specs/Demand1`.
+use mathlib.Core.Path.{_≡_, sym, ap, _∙_}
+use mathlib.Core.Logic.{_≢_, _⊎_, inl, inr, ⊎-elim}
+use mathlib.Core.List.{List, [], _∷_}
+use Prim.Native.Nat.{ℕ, _≤_}
+use native.Mathlib.Omega.{arith}
+use lib.ListN.{length, replicate, length-append, length-replicate}
+use borrow.Author.Tests.{ne-eqb}
+use Rattle.laws.specs.Below.{count-at-most}
+use Rattle.laws.specs.Lists.{Bytes}
+use Rattle.laws.specs.Order.{OneOf, one-of-them}
+use Rattle.stored.specs.Layout.{limits, headerOf, meshBytes, selectionOf, namedIn}
+use Rattle.stored.specs.Fitting.{HeaderFits, header-fits, round-fits}
+use Rattle.mesh_tables.specs.Tables.{tablesOf, allVertices, allRecords}
+use Rattle.check_refusals.specs.Check.{rows, tableRows, checkNumber}
+use Rattle.check_refusals.specs.Rows.{report-number}
+use Rattle.refine_selection.specs.Selected.{selectionRows, roundRow, isNamed}
+use Rattle.refine_service.specs.Refine.{resultOf}
+use Rattle.takeback_remains.specs.Remains.{vertexRemains, recordRemains, closedUp}
+use Rattle.takeback_service.specs.TakeBack.{left, requestRows, takeBackNumber, takeBackBytes}
+use Rattle.takeback_meaning.specs.Answer.{refused-bytes, accepted-bytes, job-kept, base-vertices-kept, base-records-kept}
+use Rattle.demands_proofs.specs.Outcomes.{zero-or-not, header-first}
+use Rattle.demands_proofs.specs.StoredOf.{stored-of-accepted}
+use Rattle.demands.specs.Demand1.{MeshIn}
+use Rattle.taken_back.specs.Words.{leftBytes}
+use Rattle.taken_back.specs.Requests.{take-back-accepts}
+use Rattle.taken_back.specs.Result.{left-vertices, left-records, left-as-long}
+use Rattle.taken_back.specs.TakenBack.{accepted-again, accepted-good}
+
+-- What taking cuts back answers, for two byte strings and a length of the output buffer.
+pub record TakeBackOutcome (mesh request : List ℕ) (room number : ℕ) (bytes : List ℕ) : Type 0 where
+  -- "either a mesh", which check accepts; "or a numbered refusal", one of "1 to 15, 18 and 20 as in refine, and 30", and "all zeros".
+  pub either :
+      ((number ≡ 0) × (out : MeshIn bytes room) × (checkNumber (meshBytes (out .mesh)) ≡ 0))
+      ⊎ (OneOf (1 ∷ 2 ∷ 3 ∷ 4 ∷ 5 ∷ 6 ∷ 7 ∷ 8 ∷ 9 ∷ 10 ∷ 11 ∷ 12 ∷ 13 ∷ 14 ∷ 15 ∷ 30 ∷ 18 ∷ 20 ∷ []) number × (bytes ≡ replicate room 0))
+  -- The output buffer keeps its length.
+  pub length : length bytes ≡ room
+
+module _ (mesh request : List ℕ) (room : ℕ) where
+  one-of-these : OneOf (0 ∷ 1 ∷ 2 ∷ 3 ∷ 4 ∷ 5 ∷ 6 ∷ 7 ∷ 8 ∷ 9 ∷ 10 ∷ 11 ∷ 12 ∷ 13 ∷ 14 ∷ 15 ∷ 30 ∷ 18 ∷ 20 ∷ []) (takeBackNumber mesh request room)
+  unfolding takeBackNumber rows tableRows requestRows selectionRows roundRow
+  one-of-these = one-of-them _
+
+  refused : takeBackNumber mesh request room ≢ 0 → takeBackBytes mesh request room ≡ replicate room 0
+  refused n = refused-bytes mesh request room (ne-eqb (takeBackNumber mesh request room) 0 n)
+
+  module _ (e : takeBackNumber mesh request room ≡ 0) where
+    pub left-within : length (leftBytes mesh request) ≤ room
+    left-within = omega (arith, left-as-long mesh request, take-back-accepts mesh request room .0 e .long)
+
+    few : (resultOf (left mesh request) .header .vertices ≤ limits .vertices) × (resultOf (left mesh request) .header .records ≤ limits .records)
+    unfolding resultOf left closedUp
+    few =
+        let m = tablesOf mesh in
+        let named = isNamed (selectionOf request .count) (namedIn request) in
+        let most = take-back-accepts mesh request room .0 e .accepted .limits in
+        (omega (arith, count-at-most (vertexRemains m named) (allVertices m), most .vertices), omega (arith, count-at-most (recordRemains m named) (allRecords m), most .records))
+
+    header-kept : Bytes mesh → headerOf (takeBackBytes mesh request room) ≡ resultOf (left mesh request) .header
+    unfolding resultOf
+    header-kept b = ap headerOf (accepted-bytes mesh request room e) ∙ header-first (resultOf (left mesh request)) fits _
+      where
+        given : HeaderFits (headerOf mesh)
+        given = header-fits mesh b
+
+        fits : HeaderFits (resultOf (left mesh request) .header)
+        fits =
+            record {
+              job = omega (arith, job-kept mesh request, given .job);
+              round = round-fits (left mesh request .header .round);
+              baseVertices = omega (arith, base-vertices-kept mesh request, given .baseVertices);
+              vertices = omega (arith, few .0);
+              baseRecords = omega (arith, base-records-kept mesh request, given .baseRecords);
+              records = omega (arith, few .1);
+            }
+
+    mesh-in : Bytes mesh → MeshIn (takeBackBytes mesh request room) room
+    unfolding resultOf
+    mesh-in b =
+        record {
+          mesh = resultOf (left mesh request);
+          vertices = left-vertices mesh request;
+          records = left-records mesh request;
+          few-vertices = few .0;
+          few-records = few .1;
+          bytes = accepted-bytes mesh request room e;
+          as-long = left-as-long mesh request;
+          within = left-within;
+          header = header-kept b;
+        }
+
+    pub left-accepted : Bytes mesh → checkNumber (leftBytes mesh request) ≡ 0
+    left-accepted b =
+        let x = stored-of-accepted mesh b (take-back-accepts mesh request room .0 e .accepted) in
+        sym (report-number (leftBytes mesh request)) ∙ accepted-again mesh x request (accepted-good mesh x request room e)
+
+-- Every two byte strings and every length of the output buffer have one.
+pub take-back-outcome : (mesh request : List ℕ) → Bytes mesh → (room : ℕ) → TakeBackOutcome mesh request room (takeBackNumber mesh request room) (takeBackBytes mesh request room)
+unfolding mesh-in resultOf
+take-back-outcome mesh request b room =
+    record {
+      either = ⊎-elim
+          (λ e. inl (e, mesh-in mesh request room e b, left-accepted mesh request room e b))
+          (λ n. inr (⊎-elim (λ e. absurd (n e)) (λ other. other) (one-of-these mesh request room), refused mesh request room n))
+          (zero-or-not (takeBackNumber mesh request room));
+      length = ⊎-elim
+          (λ e. rw (accepted-bytes mesh request room e) (simp (length-append, length-replicate) (omega (arith, left-within mesh request room e))))
+          (λ n. rw (refused mesh request room n) (length-replicate room 0))
+          (zero-or-not (takeBackNumber mesh request room));
+    }

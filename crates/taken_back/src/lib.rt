@@ -1,0 +1,1 @@
+// Ours takes cuts back as request nine asks; specs alone.
