@@ -2,10 +2,12 @@
 use stored::Header;
 use stored::Layout;
 ghost use mathlib.Core.Path.{_≡_};
-ghost use Prim.Native.Nat.{max, _≤_};
+ghost use Prim.Native.Nat.{_*_, _^_, max, _≤_};
+ghost use lib.IntN.{natAbs};
 ghost use Rattle.laws.specs.Below.{bit};
 ghost use Rattle.stored.specs.Layout.{limits, vertexIn, recordIn};
-ghost use Rattle.mesh_tables.specs.Tables.{tables};
+ghost use Rattle.grid.specs.Places.{greatestPlace};
+ghost use Rattle.mesh_tables.specs.Tables.{tables, sixfoldAt};
 ghost use Rattle.check_figures.specs.Bounds.{sixfoldWithin};
 ghost use Rattle.check_refusals.specs.Check.{leaves, leafGeneration, deepest, leafSixfold, sixfold};
 
@@ -56,12 +58,30 @@ pub fn deepest_of<'a>(h: Header, l: Layout, base: &'a [u8], grown: &'a [u8]) -> 
     found
 }
 
+// The bound keeps the number away from the least i64, which has no negative.
+fn absolute(z: i64) -> u64
+    requires { ⌜ natAbs z ≤ 6 * greatestPlace ^ 3 ⌝ }
+    ensures { λ r. ⌜ r ≡ natAbs z ⌝ }
+{
+    if z < 0 {
+        return (0 - z) as u64;
+    }
+    z as u64
+}
+
+// The sixfold volume of record n's piece. "every place that sums volumes takes the absolute value itself"
+pub fn sixfold_at<'a>(l: Layout, base: &'a [u8], grown: &'a [u8], n: usize) -> u64
+    ensures { λ r. ⌜ r ≡ sixfoldAt (vertexIn l (now (base .entry)) (now (grown .entry))) (recordIn l (now (base .entry)) (now (grown .entry)) n .piece) ⌝ }
+{
+    let corners = stored_entries::corners_in(l, base, grown, n);
+    absolute(mesh_tables::signed_between(l, base, grown, corners))
+}
+
 fn leaf_sixfold<'a>(l: Layout, base: &'a [u8], grown: &'a [u8], n: usize) -> u64
     ensures { λ r. ⌜ r ≡ leafSixfold (vertexIn l (now (base .entry)) (now (grown .entry))) (recordIn l (now (base .entry)) (now (grown .entry)) n) ⌝ }
 {
     if mesh_tables::is_leaf(l, base, grown, n) {
-        let corners = stored_entries::corners_in(l, base, grown, n);
-        return mesh_tables::sixfold_between(l, base, grown, corners);
+        return sixfold_at(l, base, grown, n);
     }
     0
 }

@@ -3,19 +3,22 @@ use mathlib.Core.Path.{_≡_, refl, sym, ap, ap₂, _∙_, fun-ext}
 use mathlib.Core.Bool.{Bool, true, false, cond, _||_}
 use mathlib.Core.Logic.{_≢_, ⊎-elim}
 use Prim.Native.Nat.{ℕ, _+_, _*_, _<_}
+use native.Mathlib.Nat.{mul-comm}
 use native.Mathlib.Omega.{arith}
+use lib.IntN.{ℤ, pos, natAbs, _*ℤ_}
 use lib.Dec.{eqb, ltb}
 use borrow.Author.Tests.{ltb-true, ltb-false, eqb-true, eqb-false, ne-eqb}
+use Rattle.algebra.specs.Absolute.{abs-times}
 use Rattle.laws.specs.Below.{putAt, sumBelow, sum-same, either}
 use Rattle.piece.specs.declared.Piece.{Piece}
 use Rattle.piece.specs.Shape.{shapeOf}
 use Rattle.piece.specs.Ends.{cornerAt, lowerEnd, higherEnd, endsOf}
 use Rattle.piece_cut.specs.Cut.{childOf, cutOf}
-use Rattle.grid_volume.specs.Volume.{sixfoldOf}
+use Rattle.grid_volume.specs.Volume.{signedOf, sixfoldOf}
 use Rattle.grid.specs.Corners.{Midpoint}
-use Rattle.grid_volume.specs.VolumeTheorems.{half-sixfold, sixfold-kept}
+use Rattle.grid_volume.specs.VolumeTheorems.{half-signed, midpoint-turned}
 use Rattle.stored.specs.Layout.{none}
-use Rattle.mesh_tables.specs.Tables.{Tables, baseRecords, allRecords, pieceAt, isLeaf, cornerPoint, sixfoldAt}
+use Rattle.mesh_tables.specs.Tables.{Tables, baseRecords, allRecords, pieceAt, isLeaf, cornerPoint, signedAt, sixfoldAt}
 use Rattle.check_refusals.specs.Refusals.{isChildOf}
 use Rattle.check_refusals.specs.Check.{leafSixfold, sixfold}
 use Rattle.check_meaning.specs.Tests.{fails-unless}
@@ -26,10 +29,8 @@ use Rattle.check_meaning.specs.Descent.{ends-are, lower-is-end, higher-i
 use Rattle.check_meaning.specs.Sums.{sum-plus, sum-of-none, sum-swap, sum-of-one, sum-of-part, sum-at, sum-parts}
 
 -- The child's corners are the parent's with w's place in slot k.
-child-sixfold : (m : Tables) (p : Piece) (w k : ℕ) → Four p → k < 4 → sixfoldAt (m .vertexAt) (childOf p w k) ≡ sixfoldOf (putAt k (pointAt m w) (cornerPoint (m .vertexAt) p))
-unfolding sixfoldAt
-child-sixfold m p w k f l =
-    ap sixfoldOf (fun-ext λ j. ap (pointAt m) (child-corner p w k f l j) ∙ picked (eqb j k) w (cornerAt p j))
+child-corners : (m : Tables) (p : Piece) (w k : ℕ) → Four p → k < 4 → cornerPoint (m .vertexAt) (childOf p w k) ≡ putAt k (pointAt m w) (cornerPoint (m .vertexAt) p)
+child-corners m p w k f l = fun-ext λ j. ap (pointAt m) (child-corner p w k f l j) ∙ picked (eqb j k) w (cornerAt p j)
   where
     picked : (b : Bool) (x y : ℕ) → pointAt m (cond b x y) ≡ cond b (pointAt m x) (pointAt m y)
     picked true x y = refl
@@ -39,7 +40,10 @@ ends-apart : (p : Piece) (e : ℕ) → e < 6 → lowerEnd p e ≢ higherEnd p e
 ends-apart p e l q =
     slots-apart e l (⊎-elim (λ h. h .0 ∙ q ∙ sym (h .1)) (λ h. h .1 ∙ sym q ∙ sym (h .0)) (ends-are p e))
 
--- The sixfold volume of record n.
+-- The signed determinant of record n, and its sixfold volume.
+abbrev pub signed : Tables → ℕ → ℤ
+signed m n = signedAt (m .vertexAt) (pieceAt m n)
+
 abbrev pub volume : Tables → ℕ → ℕ
 volume m n = sixfoldAt (m .vertexAt) (pieceAt m n)
 
@@ -48,24 +52,33 @@ abbrev share : Tables → ℕ → ℕ → ℕ
 share m c n = cond (isChildOf (m .recordAt n) c) (volume m c) 0
 
 module _ (m : Tables) (a : RightMesh m) (four : (n : ℕ) → Four (pieceAt m n)) where
-  -- Each child of a cut record has half its volume.
-  pub children-halve : (n : ℕ) → n < allRecords m → RightCut m n → (volume m (firstChild m n) * 2 ≡ volume m n) × (volume m (firstChild m n + 1) * 2 ≡ volume m n)
-  unfolding cutOf endsOf sixfoldAt
-  children-halve n l r =
+  -- "a child's signed value is exactly half of its parent's"
+  pub children-halve-signed : (n : ℕ) → n < allRecords m → RightCut m n → (pos 2 *ℤ signed m (firstChild m n) ≡ signed m n) × (pos 2 *ℤ signed m (firstChild m n + 1) ≡ signed m n)
+  unfolding cutOf endsOf signedAt
+  children-halve-signed n l r =
       let p = pieceAt m n in
       let u = lowerEnd p (p .edge) in
       let v = higherEnd p (p .edge) in
       let corner = cornerPoint (m .vertexAt) p in
+      let w = pointAt m (r .w) in
       let sound = every-sound m a four n l in
       let lu = lower-is-end p (p .edge) .0 in
       let lv = higher-is-end p (p .edge) .0 in
       let apart = ends-apart p (p .edge) (valid-is (shapeOf p) .0 (sound .valid .valid) .0) in
-      let middle : Midpoint (pointAt m (r .w)) (corner u) (corner v) = rw (r .parents .p, r .parents .q) at (a .vertices .made (r .w) (r .made) .halfway) in
-      let kept = sixfold-kept corner (pointAt m (r .w)) u v lu lv apart middle in
-      let half = half-sixfold corner (pointAt m (r .w)) u v lu lv apart middle in
-      let first = ap (sixfoldAt (m .vertexAt)) (r .first) ∙ child-sixfold m p (r .w) v (sound .four) lv in
-      let second = ap (sixfoldAt (m .vertexAt)) (r .second) ∙ child-sixfold m p (r .w) u (sound .four) lu in
-      (omega (arith, kept, half, first, second), omega (arith, half, second))
+      let middle : Midpoint w (corner u) (corner v) = rw (r .parents .p, r .parents .q) at (a .vertices .made (r .w) (r .made) .halfway) in
+      let first = ap (signedAt (m .vertexAt)) (r .first) ∙ ap signedOf (child-corners m p (r .w) v (sound .four) lv) in
+      let second = ap (signedAt (m .vertexAt)) (r .second) ∙ ap signedOf (child-corners m p (r .w) u (sound .four) lu) in (
+        ap (λ (z : ℤ). pos 2 *ℤ z) first ∙ half-signed corner w v u lv lu (λ e. apart (sym e)) (midpoint-turned w (corner u) (corner v) middle),
+        ap (λ (z : ℤ). pos 2 *ℤ z) second ∙ half-signed corner w u v lu lv apart middle,
+      )
+
+  -- So each child of a cut record has half its volume.
+  pub children-halve : (n : ℕ) → n < allRecords m → RightCut m n → (volume m (firstChild m n) * 2 ≡ volume m n) × (volume m (firstChild m n + 1) * 2 ≡ volume m n)
+  unfolding signedAt sixfoldAt sixfoldOf
+  children-halve n l r = let (first, second) = children-halve-signed n l r in (half (signed m (firstChild m n)) (signed m n) first, half (signed m (firstChild m n + 1)) (signed m n) second)
+    where
+      half : (x y : ℤ) → pos 2 *ℤ x ≡ y → natAbs x * 2 ≡ natAbs y
+      half x y e = mul-comm (natAbs x) 2 ∙ sym (abs-times (pos 2) x) ∙ ap natAbs e
 
   -- A record of the base is no child; any other is the child of exactly one.
   by-parents : (c : ℕ) → c < allRecords m → sumBelow (allRecords m) (share m c) ≡ cond (ltb c (baseRecords m)) 0 (volume m c)

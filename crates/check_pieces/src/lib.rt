@@ -58,7 +58,7 @@ fn bad_base_record<'a>(h: Header, l: Layout, base: &'a [u8], grown: &'a [u8], n:
     if corner_not_in_base(h.base_vertices, corners) {
         return true;
     }
-    if mesh_tables::sixfold_between(l, base, grown, corners) == 0 {
+    if mesh_tables::signed_between(l, base, grown, corners) == 0 {
         return true;
     }
     if stored_entries::generation_in(l, base, grown, n) != 0 {

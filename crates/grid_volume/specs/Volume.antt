@@ -25,9 +25,13 @@ differenceOf p q = (p .x -ℤ q .x) ∷ (p .y -ℤ q .y) ∷ (p .z -ℤ q .z) �
 unfoldable pub differencesOf : (ℕ → Point) → List (List ℤ)
 differencesOf corner = differenceOf (corner 1) (corner 0) ∷ differenceOf (corner 2) (corner 0) ∷ differenceOf (corner 3) (corner 0) ∷ []
 
+-- Document 02: "The volume service must return the signed determinant, positive for right-handed".
+abbrev pub signedOf : (ℕ → Point) → ℤ
+signedOf corner = determinantOf (differencesOf corner)
+
 -- "Sixfold volume is the absolute determinant"
 unfoldable pub sixfoldOf : (ℕ → Point) → ℕ
-sixfoldOf corner = natAbs (determinantOf (differencesOf corner))
+sixfoldOf corner = natAbs (signedOf corner)
 
 -- four corners by their slots
 abbrev pub cornersOf : Point → Point → Point → Point → ℕ → Point

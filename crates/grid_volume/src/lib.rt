@@ -1,10 +1,10 @@
-// The sixfold volume of a piece, from the places of its corners.
+// The signed determinant of a piece, six times its volume with the sign of its handedness, from the places of its corners.
 use grid::Place;
 ghost use mathlib.Core.Path.{_≡_};
 ghost use Prim.Native.Nat.{_*_, _^_, _≤_};
 ghost use lib.IntN.{natAbs, _+ℤ_, _-ℤ_, _*ℤ_};
 ghost use Rattle.grid.specs.Places.{greatestPlace, pointOf};
-ghost use Rattle.grid_volume.specs.Volume.{determinantOf, sixfoldOf, cornersOf};
+ghost use Rattle.grid_volume.specs.Volume.{determinantOf, signedOf, cornersOf};
 ghost use Rattle.grid_volume.specs.VolumeLaws.{Within, Difference};
 
 // A row: p less q, coordinate by coordinate.
@@ -49,21 +49,10 @@ fn determinant(m: [[i64; 3]; 3]) -> i64
     row_sum(p[0], p[1], p[2], x, y, z)
 }
 
-// The bound keeps the number away from the least i64, which has no negative.
-fn absolute(z: i64) -> u64
-    requires { ⌜ natAbs z ≤ 6 * greatestPlace ^ 3 ⌝ }
-    ensures { λ r. ⌜ r ≡ natAbs z ⌝ }
-{
-    if z < 0 {
-        return (0 - z) as u64;
-    }
-    z as u64
-}
-
-// The sixfold volume of the piece with these corners in slots 0 to 3.
-pub fn sixfold(a: Place, b: Place, c: Place, d: Place) -> u64
-    ensures { λ r. ⌜ r ≡ sixfoldOf (cornersOf (pointOf a) (pointOf b) (pointOf c) (pointOf d)) ⌝ }
+// The signed determinant of the piece with these corners in slots 0 to 3.
+pub fn signed(a: Place, b: Place, c: Place, d: Place) -> i64
+    ensures { λ r. ⌜ r ≡ signedOf (cornersOf (pointOf a) (pointOf b) (pointOf c) (pointOf d)) ⌝ }
 {
     let m = [difference(b, a), difference(c, a), difference(d, a)];
-    absolute(determinant(m))
+    determinant(m)
 }

@@ -2,13 +2,14 @@
 use mathlib.Core.Bool.{Bool, not, _&&_}
 use mathlib.Core.List.{List}
 use Prim.Native.Nat.{ℕ}
+use lib.IntN.{ℤ}
 use lib.Dec.{eqb, leb}
 use Rattle.laws.specs.Below.{anyBelow, firstBelow}
 use Rattle.piece.specs.declared.Piece.{Piece}
 use Rattle.piece.specs.declared.Ends.{Ends}
 use Rattle.piece.specs.Ends.{cornerAt, endsOf}
 use Rattle.grid.specs.Places.{Point, pointOf}
-use Rattle.grid_volume.specs.Volume.{sixfoldOf}
+use Rattle.grid_volume.specs.Volume.{signedOf, sixfoldOf}
 use Rattle.stored.specs.declared.Layout.{Layout}
 use Rattle.stored.specs.declared.Header.{Header}
 use Rattle.stored.specs.declared.Vertex.{Vertex}
@@ -85,6 +86,9 @@ refinementEnds p = endsOf p (p .edge)
 abbrev pub cornerPoint : (ℕ → Vertex) → Piece → ℕ → Point
 cornerPoint vertexAt p k = pointOf (vertexAt (cornerAt p k) .place)
 
--- "Sixfold volume" of a piece.
+-- "the signed determinant" of a piece (document 02), and its "sixfold volume".
+unfoldable pub signedAt : (ℕ → Vertex) → Piece → ℤ
+signedAt vertexAt p = signedOf (cornerPoint vertexAt p)
+
 unfoldable pub sixfoldAt : (ℕ → Vertex) → Piece → ℕ
 sixfoldAt vertexAt p = sixfoldOf (cornerPoint vertexAt p)

@@ -7,9 +7,9 @@ use stored::Layout;
 ghost use mathlib.Core.Path.{_≡_};
 ghost use lib.ListN.{getD};
 ghost use Rattle.grid.specs.Places.{pointOf};
-ghost use Rattle.grid_volume.specs.Volume.{sixfoldOf};
+ghost use Rattle.grid_volume.specs.Volume.{signedOf};
 ghost use Rattle.stored.specs.Layout.{vertexIn, recordIn};
-ghost use Rattle.mesh_tables.specs.Tables.{uncut, refinementEnds, sixfoldAt};
+ghost use Rattle.mesh_tables.specs.Tables.{uncut, refinementEnds};
 
 // Whether record n is not cut.
 pub fn is_leaf<'a>(l: Layout, base: &'a [u8], grown: &'a [u8], n: usize) -> bool
@@ -28,21 +28,13 @@ pub fn refinement_ends<'a>(l: Layout, base: &'a [u8], grown: &'a [u8], n: usize)
     piece::ends_between(low, high)
 }
 
-// The sixfold volume of a piece with these corners.
-pub fn sixfold_between<'a>(l: Layout, base: &'a [u8], grown: &'a [u8], corners: [u32; 4]) -> u64
-    ensures { λ r. ⌜ r ≡ sixfoldOf (λ k. pointOf (vertexIn l (now (base .entry)) (now (grown .entry)) (getD corners k 0) .place)) ⌝ }
+// The signed determinant of a piece with these corners.
+pub fn signed_between<'a>(l: Layout, base: &'a [u8], grown: &'a [u8], corners: [u32; 4]) -> i64
+    ensures { λ r. ⌜ r ≡ signedOf (λ k. pointOf (vertexIn l (now (base .entry)) (now (grown .entry)) (getD corners k 0) .place)) ⌝ }
 {
     let a = stored_entries::place_in(l, base, grown, corners[0] as usize);
     let b = stored_entries::place_in(l, base, grown, corners[1] as usize);
     let c = stored_entries::place_in(l, base, grown, corners[2] as usize);
     let d = stored_entries::place_in(l, base, grown, corners[3] as usize);
-    grid_volume::sixfold(a, b, c, d)
-}
-
-// The sixfold volume of a piece.
-pub fn sixfold_of<'a>(l: Layout, base: &'a [u8], grown: &'a [u8], p: Piece) -> u64
-    ensures { λ r. ⌜ r ≡ sixfoldAt (vertexIn l (now (base .entry)) (now (grown .entry))) p ⌝ }
-{
-    let corners = p.corners;
-    sixfold_between(l, base, grown, corners)
+    grid_volume::signed(a, b, c, d)
 }

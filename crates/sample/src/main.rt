@@ -34,7 +34,7 @@ fn print_record(l: Layout, mesh: &[u8], n: usize) {
     print_marks(p.edge, marks);
     print_figure(b" cut next at ", ends.lower as u64);
     print_figure(b"-", ends.higher as u64);
-    print_figure(b" sixfold ", mesh_tables::sixfold_of(l, mesh, mesh, p));
+    print_figure(b" sixfold ", check_figures::sixfold_at(l, mesh, mesh, n));
     io::write_all(STDOUT_FILENO, b"\n");
 }
 

@@ -1,13 +1,13 @@
--- `grid_volume::absolute` meets its contract: the number is far from the least i64, so its negative fits. Assumes nothing.
+-- `check_figures::absolute` meets its contract: the number is far from the least i64, so its negative fits. Assumes nothing.
 use mathlib.Core.Path.{_≡_, _∙_, ap, subst}
 use mathlib.Core.Bool.{true, false}
 use Prim.Native.Nat.{_*_, _^_, zero-le}
 use lib.IntN.{ℤ, pos, natAbs}
 use lib.Signed.{ltZ}
 use Rattle.grid_volume.specs.Exact.{itself, passed, difference, fits, stored, above-zero, not-below-zero, abs-from-zero, cast-fits}
 use Rattle.grid.specs.Places.{greatestPlace}
-use Rattle.grid_volume.proofs.absolute.Statement.{statement}
-use Rattle.grid_volume.proofs.absolute.Tie as tie
+use Rattle.check_figures.proofs.absolute.Statement.{statement}
+use Rattle.check_figures.proofs.absolute.Tie as tie
 
 sub-result : tie.Need-sub-result
 sub-result c =
