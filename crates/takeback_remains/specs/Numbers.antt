@@ -13,15 +13,13 @@ use lib.Dec.{eqb, ltb}
 use borrow.Author.Tests.{ltb-true, ltb-false, ne-eqb}
 use borrow.Author.Count.{below-more}
 use Rattle.laws.specs.Below.{countBelow, count-none, count-suc, count-at-most, listBelow, list-length, list-at, list-of, either}
+use Rattle.laws_remaining.specs.Remaining.{count-here}
 use Rattle.stored.specs.Layout.{none}
 use Rattle.takeback_remains.specs.Remains.{renumbered}
 
 module _ (P : ℕ → Bool) where
-  -- One more counts if it remains.
-  pub count-stays : (n : ℕ) → P n ≡ true → countBelow (suc n) P ≡ suc (countBelow n P)
-  count-stays n e = rw (count-suc P n, e) (omega arith)
-
-  pub count-gone : (n : ℕ) → P n ≡ false → countBelow (suc n) P ≡ countBelow n P
+  -- One that does not remain counts for nothing.
+  count-gone : (n : ℕ) → P n ≡ false → countBelow (suc n) P ≡ countBelow n P
   count-gone n e = rw (count-suc P n, e) (omega arith)
 
   -- Past the last that remains no more are counted.
@@ -92,7 +90,7 @@ module _ (P : ℕ → Bool) (start : List ℕ) where
         record {
           within = omega (arith, was .long);
           long = length-set numbers x next ∙ was .long;
-          counted = rw (add-one x, add-one next, count-stays P x t, was .counted);
+          counted = ap (λ (k : ℕ). k + 1) (was .counted) ∙ sym (count-here P x t);
           each = put-each next (was .counted ∙ sym (new-stays P x t));
         }
 

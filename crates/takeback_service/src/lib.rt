@@ -1,7 +1,6 @@
 // Taking cuts back: what a request names is uncut again, as far as it can be.
 use stored::Header;
 use stored::Layout;
-use stored::Selection;
 ghost use mathlib.Core.Path.{_≡_};
 ghost use lib.ListN.{length};
 ghost use Rattle.stored.specs.Layout.{namedIn, recordIn};
@@ -44,11 +43,11 @@ fn named<'a>(
     base: &'a [u8],
     grown: &'a [u8],
     request: &'a [u8],
-    s: Selection,
+    count: usize,
 ) -> u32
-    ensures { λ r. ⌜ r ≡ namedNumber (tables h l (now (base .entry)) (now (grown .entry))) (s .count) (namedIn (now (request .entry))) ⌝ }
+    ensures { λ r. ⌜ r ≡ namedNumber (tables h l (now (base .entry)) (now (grown .entry))) count (namedIn (now (request .entry))) ⌝ }
 {
-    if names_uncut(l, base, grown, request, s.count as usize) {
+    if names_uncut(l, base, grown, request, count) {
         return 30;
     }
     if h.round == stored::LAST_ROUND {
@@ -66,7 +65,7 @@ fn requested<'a>(h: Header, l: Layout, base: &'a [u8], grown: &'a [u8], request:
         return wrong;
     }
     let s = stored_selections::selection_of(request);
-    named(h, l, base, grown, request, s)
+    named(h, l, base, grown, request, s.count as usize)
 }
 
 // Refusal 20, or the mesh that is left, which is put together in the output buffer. Working memory is made here, and lent.

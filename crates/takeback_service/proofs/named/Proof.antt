@@ -23,4 +23,4 @@ unfolding namedNumber firstBroken roundRow
 returns-3 c = rw (sym (c .before .before .before .names-uncut .ensures) ∙ c .before .before .if1 .left, ne-eqb _ lastRound (c .if2 .left))
 
 pub named-spec : {M : Type 1} → statement M
-named-spec = tie.close (tie.spec (λ c. search needs) (λ c κs. search needs) returns returns-2 returns-3)
+named-spec = tie.close (tie.spec (λ c κs. search needs) returns returns-2 returns-3)

@@ -19,11 +19,11 @@ returns c =
 
 returns-2 : tie.Need-returns-2
 returns-2 c =
-    let a = c .before .before .before .before .before .before .before .args in
+    let a = c .before .before .before .before .before .before .before .before .args in
     let m = tables (a .h) (a .l) (now (a .base)) (now (a .grown)) in
     c .named .ensures
-    ∙ ap (λ (s : Selection). namedNumber m (s .count) (namedIn (now (a .request)))) (c .before .selection-of .ensures)
-    ∙ request-right m (now (a .request)) (sym (c .before .before .before .wrong-selection .ensures) ∙ c .before .before .if1 .left)
+    ∙ ap (λ (s : Selection). namedNumber m (s .count) (namedIn (now (a .request)))) (c .before .before .selection-of .ensures)
+    ∙ request-right m (now (a .request)) (sym (c .before .before .before .before .wrong-selection .ensures) ∙ c .before .before .before .if1 .left)
 
 pub requested-spec : {M : Type 1} → statement M
-requested-spec = tie.close (tie.spec (λ c κs. search needs) returns (λ c κs. search needs) (λ c κs. search needs) returns-2)
+requested-spec = tie.close (tie.spec (λ c κs. search needs) returns (λ c κs. search needs) (λ c. search needs) (λ c κs. search needs) returns-2)
