@@ -17,8 +17,7 @@ extern "C" {
 /*
  * What check gives back.
  *
- * number is 0 on acceptance; else the first rule broken, in the order of the numbers, names the
- * refusal:
+ * number is 0 on acceptance; else the first rule broken, in this order, names the refusal:
  *
  *    0  accepted
  *    1  under 20 bytes, or length is not 20 + 10 * vertices + 17 * records
@@ -28,6 +27,8 @@ extern "C" {
  *       vertex without p < q < its own number, not exactly halfway, or a parent pair used twice
  *    5  base record with equal corners, a corner not in the base, sixfold volume 0, generation or
  *       flag not 0
+ *   22  a base record with a negative value: the determinant of three differences, corners 1, 2, 3
+ *       less corner 0, which is positive for right-handed; its absolute value is the sixfold volume
  *    6  base record with an edge code above 5, a mark not on its face, or a refinement face not
  *       marked with the refinement edge
  *    7  a face in three base records, two base records with the same four corners, or a shared face
@@ -56,8 +57,10 @@ struct tmb_report tmb_check(const uint8_t *mesh, size_t length);
 
 /*
  * Build marks a plain mesh and stores it: a job number, coordinate_count coordinates, three a vertex,
- * and corner_count corners, four a piece, which are only read. It gives back the number alone, 0 on
- * acceptance, and tries 21, then 3, 4, 5, 7, 8, 20:
+ * and corner_count corners, four a piece, which are only read. Every piece is stored right-handed: of
+ * a left-handed one the last two corners are exchanged before it is marked, and it keeps its place in
+ * the list. Build gives back the number alone, 0 on acceptance; it never gives 22, and tries 21, then
+ * 3, 4, 5, 7, 8, 20:
  *
  *    0  accepted
  *   21  coordinates not three a vertex, or corners not four a piece
@@ -79,11 +82,11 @@ uint32_t tmb_build(uint32_t job, const int16_t *coordinates, size_t coordinate_c
 /*
  * Refine takes a stored mesh, the mesh_length bytes at mesh, and a selection, the selection_length
  * bytes at selection, both only read, and writes the refined mesh. Every two byte strings get an
- * answer. It gives back the number alone, 0 on acceptance; else the first rule broken, in the order
- * of the numbers, names the refusal:
+ * answer. It gives back the number alone, 0 on acceptance; else the first rule broken, in this order,
+ * names the refusal:
  *
  *    0  accepted
- *    1 to 10, of the mesh: what check gives for it, in the words above
+ *    1 to 10 and 22, of the mesh: what check gives for it, in the words above
  *   11  selection under 13 bytes, or length not 13 + 2 * n
  *   12  selection's mark or version wrong
  *   13  another job
@@ -113,7 +116,7 @@ uint32_t tmb_refine(const uint8_t *mesh, size_t mesh_length, const uint8_t *sele
  * alone, 0 on acceptance; else the first rule broken, in this order, names the refusal:
  *
  *    0  accepted
- *    1 to 10, of the mesh: what check gives for it, in the words above
+ *    1 to 10 and 22, of the mesh: what check gives for it, in the words above
  *   11 to 15, of the request: what refine gives for a selection, in the words above
  *   30  a named record that is uncut
  *   18  the round is 65,535
@@ -132,8 +135,8 @@ uint32_t tmb_take_back(const uint8_t *mesh, size_t mesh_length, const uint8_t *r
  *
  * number is 0 where an accepted mesh is listed; else
  *
- *    1 to 10, of the mesh: what check gives for it, in the words above; input longer than the
- *       largest mesh, 62,484 bytes, is refused with 1 here
+ *    1 to 10 and 22, of the mesh: what check gives for it, in the words above; input longer than
+ *       the largest mesh, 62,484 bytes, is refused with 1 here
  *   20  of an accepted mesh: the output buffer is shorter than the listing
  */
 struct tmb_listed {

@@ -4,10 +4,10 @@
 use crate::plain::Plain;
 use crate::station;
 use crate::stored::{
-    job, named, round, two, Counts, Record, LARGEST_MESH, LONGEST_MESH, LONGEST_SELECTION,
+    self, job, named, round, two, Counts, Record, LARGEST_MESH, LONGEST_MESH, LONGEST_SELECTION,
 };
 
-/// 1 to 10, of a stored mesh.
+/// 1 to 10 and 22, of a stored mesh.
 pub fn mesh(number: u32, mesh: &[u8]) -> Option<String> {
     match number {
         1 | 2 if mesh.starts_with(b"TMS") => Some("this is a selection, not a mesh".to_string()),
@@ -17,11 +17,12 @@ pub fn mesh(number: u32, mesh: &[u8]) -> Option<String> {
         ),
         3 => Some(counts(mesh)),
         10 => Some(hanging_edge(mesh)),
+        22 => left_handed(mesh),
         _ => None,
     }
 }
 
-/// 1 to 10 of the mesh, 11 to 19 of the selection for it.
+/// 1 to 10 and 22 of the mesh, 11 to 19 of the selection for it.
 pub fn refinement(number: u32, mesh: &[u8], selection: &[u8]) -> Option<String> {
     match number {
         16 => named_where(mesh, selection, |record| record.is_cut())
@@ -41,7 +42,7 @@ pub fn refinement(number: u32, mesh: &[u8], selection: &[u8]) -> Option<String> 
     }
 }
 
-/// 1 to 10 of the mesh, 11 to 15, 30 and 18 of the request for it.
+/// 1 to 10 and 22 of the mesh, 11 to 15, 30 and 18 of the request for it.
 pub fn taking_back(number: u32, mesh: &[u8], request: &[u8]) -> Option<String> {
     match number {
         18 => Some("no cut of this mesh can be taken back any more".to_string()),
@@ -67,7 +68,7 @@ const REQUEST: Choice = Choice {
 };
 
 impl Choice {
-    /// 1 to 10 of the mesh, and 11 to 15, which are the same of both.
+    /// 1 to 10 and 22 of the mesh, and 11 to 15, which are the same of both.
     fn explained(&self, number: u32, mesh: &[u8], choice: &[u8]) -> Option<String> {
         match number {
             11 | 12 if choice.starts_with(b"TMB") => {
@@ -160,6 +161,27 @@ fn hanging_edge(mesh: &[u8]) -> String {
     format!("record {record}, the edge of vertices {lower} and {higher}")
 }
 
+/// 22: the first base record with which check gives it, asked of check itself.
+fn left_handed(mesh: &[u8]) -> Option<String> {
+    let gives = |records: usize| station::check(&stored::base_of(mesh, records)).number == 22;
+    let record = first_of(Counts::of(mesh).base_records.into(), gives)?;
+    Some(format!(
+        "record {record} is left-handed: this mesh was made elsewhere or earlier; build it anew, since \
+         tmb build exchanges corners by itself"
+    ))
+}
+
+/// The first one with which a number is given: the first so many give it or not, and all of them do.
+fn first_of(all: usize, gives: impl Fn(usize) -> bool) -> Option<usize> {
+    // So many don't, so many do.
+    let (mut good, mut bad) = (0, all);
+    while bad - good > 1 {
+        let half = (good + bad) / 2;
+        *(if gives(half) { &mut bad } else { &mut good }) = half;
+    }
+    bad.checked_sub(1)
+}
+
 /// 15: the first number that does not rise, or is too high.
 fn bad_number(mesh: &[u8], selection: &[u8]) -> Option<String> {
     let (numbers, records) = (named(selection), Counts::of(mesh).records);
@@ -234,13 +256,7 @@ fn bad_piece(plain: &Plain, number: u32, why: fn(&Plain, usize) -> String) -> Op
         let corners = &plain.corners[..4 * pieces];
         station::build(0, &plain.coordinates, corners, &mut []) == number
     };
-    // So many pieces don't earn the number, so many do.
-    let (mut good, mut bad) = (0, plain.piece_lines.len());
-    while bad - good > 1 {
-        let half = (good + bad) / 2;
-        *(if gives(half) { &mut bad } else { &mut good }) = half;
-    }
-    let piece = bad.checked_sub(1)?;
+    let piece = first_of(plain.piece_lines.len(), gives)?;
     let line = plain.piece_lines[piece];
     Some(format!("line {line}: piece {piece} {}", why(plain, piece)))
 }

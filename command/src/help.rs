@@ -34,6 +34,9 @@ A plain mesh is a text of lines:
 
 Lines of both sorts may be mixed. What follows a # is a comment; empty lines
 are skipped.
+
+Every piece is stored right-handed: of a left-handed one the last two corners
+are exchanged before it is marked. It keeps its place among the pieces.
 ",
     },
     Page {
@@ -48,7 +51,7 @@ generation of a leaf (deepest), and the summed sixfold volume of the leaves
 (sixfold).
 
 With refusal 10 the message names the record and the two vertices of the edge
-that hangs.
+that hangs, with 22 the first base record that is left-handed.
 ",
     },
     Page {

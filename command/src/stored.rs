@@ -60,6 +60,21 @@ impl Counts {
     }
 }
 
+/// The base vertices of a mesh and its first so many base records, as a mesh by themselves.
+pub fn base_of(mesh: &[u8], records: usize) -> Vec<u8> {
+    let counts = Counts::of(mesh);
+    let vertices = counts.base_vertices;
+    let part = |at: usize, length: usize| mesh.iter().skip(at).take(length).copied();
+    let mut base: Vec<u8> = part(0, 11).collect();
+    for count in [vertices, vertices, records as u16, records as u16] {
+        base.extend(count.to_le_bytes());
+    }
+    base.push(0);
+    base.extend(part(20, 10 * usize::from(vertices)));
+    base.extend(part(counts.records_at(), 17 * records));
+    base
+}
+
 /// What is said of a record.
 pub struct Record {
     pub corners: [u16; 4],

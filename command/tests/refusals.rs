@@ -3,6 +3,7 @@
 
 mod common;
 use common::*;
+use second::mesh::Mesh;
 
 /// Every command that takes a mesh refuses it alike; no file is written or changed.
 #[track_caller]
@@ -87,14 +88,89 @@ fn of_a_stored_mesh() {
     }
 }
 
+/// 22, by two corners of a base record exchanged in the bytes: whichever two, whatever its marks are then, and
+/// whether it is cut or not. The first such record is named.
+#[test]
+fn of_a_left_handed_mesh() {
+    let desk = Desk::new("left-handed");
+    let refused = |mesh: &[u8], record: usize| {
+        let why = format!(
+            "record {record} is left-handed: this mesh was made elsewhere or earlier; build it anew, since \
+             tmb build exchanges corners by itself"
+        );
+        mesh_refused(&desk, mesh, 22, &why);
+    };
+    for slots in second::piece::EDGES {
+        refused(&corners_exchanged(&k(), 0, slots), 0);
+        refused(&corners_exchanged(&k2(), 0, slots), 0);
+    }
+    let cut = refined(&cube(), &[3]);
+    for record in 0..6 {
+        let left = corners_exchanged(&cube(), record, [2, 3]);
+        refused(&left, record);
+        // Tried before 6: a mark that is none, in this record or another.
+        for marked in [record, 5 - record] {
+            let bad = changed(&left, |mesh| mesh.records[marked].marks[0] = 6);
+            refused(&bad, record);
+        }
+        refused(&corners_exchanged(&cut, record, [0, 3]), record);
+        // The first of several.
+        let several = (record + 1..6).fold(left.clone(), |mesh, other| {
+            corners_exchanged(&mesh, other, [0, 1])
+        });
+        refused(&several, record);
+        // Tried after 5: a flag further on, or before.
+        if record != 2 {
+            let flagged = changed(&left, |mesh| mesh.records[2].flag = 1);
+            mesh_refused(&desk, &flagged, 5, "");
+        }
+    }
+    // The first of 256, the last and one between.
+    for record in [0, 100, 255] {
+        refused(&corners_exchanged(&separate(256), record, [1, 3]), record);
+    }
+    // A child in the other hand is no base record.
+    let child = corners_exchanged(&k1(), 2, [2, 3]);
+    mesh_refused(&desk, &child, 9, "");
+}
+
+/// Build takes left-handed pieces: what is stored is right-handed, and check accepts it.
+#[test]
+fn build_exchanges_corners_by_itself() {
+    let desk = Desk::new("exchanged");
+    let line = "accepted: job 7 round 0 vertices 4 records 1 leaves 1 deepest 0 sixfold 262144";
+    let places = "v 0 0 0\nv 64 0 0\nv 64 64 0\nv 64 64 64\n";
+    for (given, stored) in [
+        ("0 1 2 3", [0, 1, 2, 3]),
+        ("0 1 3 2", [0, 1, 2, 3]),
+        ("1 0 2 3", [1, 0, 3, 2]),
+        ("3 2 1 0", [3, 2, 1, 0]),
+        ("3 2 0 1", [3, 2, 1, 0]),
+        ("2 1 0 3", [2, 1, 3, 0]),
+    ] {
+        desk.write("text", format!("{places}p {given}\n").as_bytes());
+        says(&desk.run(&["build", "7", "text", "mesh"]), line);
+        let mesh = Mesh::read(&desk.read("mesh")).unwrap();
+        assert_eq!(mesh.records[0].corners, stored);
+        assert_eq!(mesh.signed(&mesh.records[0]), Some(262_144));
+        says(&desk.run(&["check", "mesh"]), line);
+    }
+    // Three of the cube's six are left-handed as they are given.
+    let plain = sample("cube.txt");
+    let words = ["build", "1"].map(std::ffi::OsStr::new);
+    let build = [words[0], words[1], plain.as_os_str(), "cube".as_ref()];
+    assert_eq!(desk.run(&build).status.code(), Some(0));
+    assert_eq!(desk.read("cube"), cube());
+    let mesh = Mesh::read(&cube()).unwrap();
+    for record in &mesh.records {
+        assert_eq!(mesh.signed(record), Some(262_144));
+    }
+}
+
 /// Two pieces with the edge of vertices 0 and 1 alone in common; the first is cut there. In the second
 /// the edge has this code, its higher vertex first.
 fn hangs_at(code: usize) -> Vec<u8> {
     let [one, other] = second::piece::EDGES[code];
-    let mut piece = [5; 4];
-    (piece[one], piece[other]) = (1, 0);
-    *piece.iter_mut().find(|corner| **corner == 5).unwrap() = 4;
-    let corners = [[0, 1, 2, 3], piece].concat();
     let places = [
         [-320, 0, 0],
         [320, 0, 0],
@@ -103,7 +179,16 @@ fn hangs_at(code: usize) -> Vec<u8> {
         [0, -64, 0],
         [0, 0, -64],
     ];
-    let mesh = cut_first(&second::build_vec(1, &places.concat(), &corners).unwrap());
+    // The two other corners in the order in which the piece is right-handed, or build exchanges two.
+    let built = |[first, last]: [u16; 2]| {
+        let mut piece = [last; 4];
+        (piece[one], piece[other]) = (1, 0);
+        *piece.iter_mut().find(|corner| **corner == last).unwrap() = first;
+        let corners = [[0, 1, 2, 3], piece].concat();
+        let mesh = second::build_vec(1, &places.concat(), &corners).unwrap();
+        Some(mesh).filter(|mesh| Mesh::read(mesh).unwrap().records[1].corners == piece)
+    };
+    let mesh = cut_first(&built([4, 5]).or(built([5, 4])).unwrap());
     let report = second::check(&mesh);
     assert_eq!(
         (report.number, report.record, report.edge),

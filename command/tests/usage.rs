@@ -64,9 +64,19 @@ fn help() {
             "What follows a # is a comment",
         ),
         (
+            "build",
+            "usage: tmb build JOB PLAIN OUT\n",
+            "of a left-handed one the last two corners\nare exchanged before it is marked",
+        ),
+        (
             "check",
             "usage: tmb check MESH\n",
             "names the record and the two vertices",
+        ),
+        (
+            "check",
+            "usage: tmb check MESH\n",
+            "with 22 the first base record that is left-handed",
         ),
         (
             "select",

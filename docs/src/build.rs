@@ -41,7 +41,7 @@ pub fn build_vec(job: u32, coordinates: &[i16], corners: &[u16]) -> Result<Vec<u
     mesh.records = mesh
         .records
         .iter()
-        .map(|record| marked(&mesh, record))
+        .map(|record| marked(&mesh, &right_handed(&mesh, record)))
         .collect();
     if !rule_7_holds(&mesh) {
         return Err(7);
@@ -74,6 +74,15 @@ fn unmarked(numbers: &[u16]) -> Record {
         generation: 0,
         first_child: NO_NUMBER,
     }
+}
+
+/// "Build takes a left-handed piece by exchanging its last two corners before marking."
+fn right_handed(mesh: &Mesh, record: &Record) -> Record {
+    let mut record = *record;
+    if mesh.is_left_handed(&record) {
+        record.corners.swap(2, 3);
+    }
+    record
 }
 
 /// "The refinement edge is the first-ranked of the piece, a face's mark the first-ranked of the

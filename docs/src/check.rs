@@ -1,4 +1,4 @@
-//! Check: judges a stored mesh by the rules 1 to 10.
+//! Check: judges a stored mesh by the rules 1 to 10, and 22.
 
 use crate::mesh::{Mesh, Pairs, Record, MOST_VERTICES, NO_NUMBER};
 use crate::piece::{children, ends, properly_marked};
@@ -17,7 +17,7 @@ pub struct Report {
     pub edge: u64,
 }
 
-/// "Check judges a stored mesh": "Check gives 1 to 10", or 0.
+/// "Check judges a stored mesh": "Check gives 1 to 10", document 02's 22, or 0.
 pub fn check(mesh: &[u8]) -> Report {
     match judge(mesh) {
         Err(refusal) => refusal,
@@ -30,8 +30,12 @@ pub fn check(mesh: &[u8]) -> Report {
                     .map(|leaf| leaf.generation.into())
                     .max()
                     .unwrap_or(0),
-                // At most 3,072 leaves, each below 6 times 2^48: the sum fits 64 bits.
-                sixfold: leaves().filter_map(|leaf| mesh.sixfold(leaf)).sum(),
+                // "Every place that sums volumes takes the absolute value itself." At most 3,072
+                // leaves, each below 6 times 2^48: the sum fits 64 bits.
+                sixfold: leaves()
+                    .filter_map(|leaf| mesh.signed(leaf))
+                    .map(i64::unsigned_abs)
+                    .sum(),
                 record: 0,
                 edge: 0,
             }
@@ -47,8 +51,8 @@ fn refused(number: u32) -> Report {
     }
 }
 
-/// "The first rule broken, in the order of the numbers, names the refusal." An accepted mesh comes
-/// back with its made vertices by parent pair.
+/// "The first rule broken, in the order of the numbers, names the refusal"; 22 is "tried after 5 and
+/// before 6". An accepted mesh comes back with its made vertices by parent pair.
 pub(crate) fn judge(bytes: &[u8]) -> Result<(Mesh, Pairs), Report> {
     let mesh = Mesh::read(bytes).map_err(refused)?;
     let pairs = mesh.pairs();
@@ -57,6 +61,9 @@ pub(crate) fn judge(bytes: &[u8]) -> Result<(Mesh, Pairs), Report> {
     }
     if !rule_5_holds(&mesh) {
         return Err(refused(5));
+    }
+    if !rule_22_holds(&mesh) {
+        return Err(refused(22));
     }
     if !rule_6_holds(&mesh) {
         return Err(refused(6));
@@ -129,10 +136,16 @@ pub(crate) fn rule_5_holds(mesh: &Mesh) -> bool {
         let in_base = |corner: u16| usize::from(corner) < mesh.base_vertices;
         !equal_corners
             && record.corners.into_iter().all(in_base)
-            && mesh.sixfold(record).is_some_and(|sixfold| sixfold != 0)
+            && mesh.signed(record).is_some_and(|value| value != 0)
             && record.generation == 0
             && record.flag == 0
     })
+}
+
+/// 22: "a base record with a negative value". Later records have their base record's sign: "a child's
+/// signed value is exactly half of its parent's".
+fn rule_22_holds(mesh: &Mesh) -> bool {
+    !base(mesh).any(|record| mesh.is_left_handed(record))
 }
 
 /// 6: "base record with an edge code above 5, a mark not on its face, or a refinement face not

@@ -35,8 +35,8 @@ fn deliver(result: Result<Vec<u8>, u32>, out: &mut [u8]) -> u32 {
     }
 }
 
-/// "Numbers we give back": the row of the table for each number, and document 02's 30, in their own
-/// words.
+/// "Numbers we give back": the row of the table for each number, and document 02's 22 and 30, in
+/// their own words.
 pub fn reason(number: u32) -> &'static str {
     match number {
         0 => "accepted",
@@ -78,6 +78,7 @@ pub fn reason(number: u32) -> &'static str {
         19 => "the closed result exceeds 1,024 vertices or 3,072 records",
         20 => "the output buffer is shorter than the result",
         21 => "build: coordinates not three a vertex, or corners not four a piece",
+        22 => "a base record with a negative value",
         30 => "a named record that is uncut",
         _ => "no such number",
     }

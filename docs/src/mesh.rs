@@ -181,17 +181,25 @@ impl Mesh {
             .filter(|(_, record)| record.is_leaf())
     }
 
-    /// "Sixfold volume is the absolute determinant of three differences of three coordinates each
-    /// (corners 1, 2, 3 less corner 0)." Nothing if a corner is no vertex.
-    pub fn sixfold(&self, record: &Record) -> Option<u64> {
+    /// "The volume service must return the signed determinant, positive for right-handed": the
+    /// "determinant of three differences of three coordinates each (corners 1, 2, 3 less corner 0)".
+    /// Its absolute value is the sixfold volume. Nothing if a corner is no vertex.
+    pub fn signed(&self, record: &Record) -> Option<i64> {
         let [origin, one, two, three] = record.corners.map(|corner| self.place(corner));
         let origin = origin?;
         let less_origin = |place: [i16; 3]| -> [i64; 3] {
             [0, 1, 2].map(|axis| i64::from(place[axis]) - i64::from(origin[axis]))
         };
-        Some(
-            determinant([less_origin(one?), less_origin(two?), less_origin(three?)]).unsigned_abs(),
-        )
+        Some(determinant([
+            less_origin(one?),
+            less_origin(two?),
+            less_origin(three?),
+        ]))
+    }
+
+    /// "A negative value".
+    pub fn is_left_handed(&self, record: &Record) -> bool {
+        self.signed(record).is_some_and(|value| value < 0)
     }
 }
 

@@ -27,6 +27,17 @@ fn the_refinement_edge_is_listed_lower_vertex_first() {
     assert_eq!(list(&mesh), whole.as_bytes());
 }
 
+/// A left-handed piece is listed as build stores it, its last two corners exchanged.
+#[test]
+fn a_left_handed_piece() {
+    let mesh = build_vec(7, &K_COORDINATES, &[0, 1, 3, 2]).unwrap();
+    assert_eq!(list(&mesh), list(&k()));
+    let mesh = build_vec(0, &K_COORDINATES, &[3, 2, 0, 1]).unwrap();
+    let whole = "job 0 round 0 vertices 4 records 1 leaves 1 deepest 0 sixfold 262144\n\
+                 0 3 2 1 0 edge 0 3 gen 0\n";
+    assert_eq!(list(&mesh), whole.as_bytes());
+}
+
 #[test]
 fn a_refused_mesh() {
     assert_eq!(list(&[]), b"refused 1\n");
@@ -37,6 +48,10 @@ fn a_refused_mesh() {
     cut_one(&mut hanging, 3, Way::Right);
     assert_eq!(check(&hanging.bytes()).number, 10);
     assert_eq!(list(&hanging.bytes()), b"refused 10\n");
+    let mut left = decode(&cube());
+    left.records[5] = turned(&left.records[5], 0, 3);
+    assert_eq!(check(&left.bytes()).number, 22);
+    assert_eq!(list(&left.bytes()), b"refused 22\n");
 }
 
 #[test]

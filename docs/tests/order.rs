@@ -4,7 +4,10 @@ mod common;
 use common::*;
 use second::{build_vec, check, refine, selection};
 
-/// A mesh that breaks exactly the given rules of 1 to 10.
+/// The rules of a stored mesh, as they are tried: 22 "after 5 and before 6".
+const OF_A_MESH: [u32; 11] = [1, 2, 3, 4, 5, 22, 6, 7, 8, 9, 10];
+
+/// A mesh that breaks exactly the given rules of 1 to 10 and 22.
 fn breaking(broken: &[u32]) -> Vec<u8> {
     let breaks = |number: u32| broken.contains(&number);
     let block = |x: i16| [[x, 0, 0], [x + 64, 0, 0], [x + 64, 64, 0], [x + 64, 64, 64]];
@@ -13,6 +16,7 @@ fn breaking(broken: &[u32]) -> Vec<u8> {
     places.push([448, 0, -64]);
     places.extend([[512, 0, 0], [608, 0, 0], [512, 32, 0], [512, 0, 32]]);
     places.extend([[512, -32, 0], [512, 0, -32]]);
+    places.extend(block(640));
     if breaks(8) {
         places.push([0, 0, 640]);
     }
@@ -26,9 +30,11 @@ fn breaking(broken: &[u32]) -> Vec<u8> {
             piece([4, 5, 6, 7], a),
             piece([8, 9, 10, 11], a),
             piece([12, 13, 14, 15], a),
-            piece([12, 13, 14, 16], a),
+            // The common face is marked with 12-14 in both.
+            piece([12, 14, 13, 16], (2, [5, 2, 2, 0])),
             piece([17, 18, 19, 20], o),
             piece([17, 18, 21, 22], o),
+            piece([23, 24, 25, 26], a),
         ],
     );
     cut_one(&mut stored, 0, Way::Right);
@@ -37,13 +43,16 @@ fn breaking(broken: &[u32]) -> Vec<u8> {
         cut_one(&mut stored, 6, Way::Right);
     }
     if breaks(9) {
-        stored.records[7].flag = 1;
+        stored.records[8].flag = 1;
     }
     if breaks(7) {
-        stored.records[4].marks[3] = 0;
+        stored.records[4].marks[3] = 1;
     }
     if breaks(6) {
         stored.records[2].marks[0] = 6;
+    }
+    if breaks(22) {
+        stored.records[7] = turned(&stored.records[7], 2, 3);
     }
     if breaks(5) {
         stored.records[1].generation = 1;
@@ -64,17 +73,15 @@ fn breaking(broken: &[u32]) -> Vec<u8> {
     bytes
 }
 
-fn subset(bits: u32, first: u32) -> Vec<u32> {
-    (0..10)
-        .filter(|i| bits >> i & 1 == 1)
-        .map(|i| first + i)
-        .collect()
+fn subset(bits: u32, rules: &[u32]) -> Vec<u32> {
+    let broken = (0..).zip(rules).filter(|(i, _)| bits >> i & 1 == 1);
+    broken.map(|(_, &number)| number).collect()
 }
 
 #[test]
-fn every_subset_of_1_to_10() {
-    for bits in 0..1024 {
-        let broken = subset(bits, 1);
+fn every_subset_of_1_to_10_and_22() {
+    for bits in 0..2048 {
+        let broken = subset(bits, &OF_A_MESH);
         let report = check(&breaking(&broken));
         let least = broken.first().copied().unwrap_or(0);
         assert_eq!(report.number, least as u64, "{broken:?}");
@@ -111,7 +118,7 @@ fn every_subset_of_11_to_20() {
     let meshes = [deep_and_many(false), deep_and_many(true)];
     let mut accepted = 0;
     for bits in 0..1024 {
-        let broken = subset(bits, 11);
+        let broken = subset(bits, &[11, 12, 13, 14, 15, 16, 17, 18, 19, 20]);
         let breaks = |number: u32| broken.contains(&number);
         let (stored, of_15) = &meshes[breaks(19) as usize];
         let mut stored = stored.clone();
@@ -177,7 +184,7 @@ fn a_leaf_of_14_where_the_tables_have_no_room() {
 
 #[test]
 fn every_number_has_words() {
-    let words: Vec<&str> = (0..=21).chain([30]).map(second::reason).collect();
+    let words: Vec<&str> = (0..=22).chain([30]).map(second::reason).collect();
     assert!(words.iter().all(|words| words.len() > 5));
     for (n, one) in words.iter().enumerate() {
         assert!(words[..n].iter().all(|other| other != one));
@@ -186,7 +193,8 @@ fn every_number_has_words() {
         second::reason(14),
         "another round: the selection has expired"
     );
+    assert_eq!(second::reason(22), "a base record with a negative value");
     assert_eq!(second::reason(30), "a named record that is uncut");
-    assert_eq!(second::reason(22), "no such number");
+    assert_eq!(second::reason(23), "no such number");
     assert_eq!(second::reason(u32::MAX), "no such number");
 }

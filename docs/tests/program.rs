@@ -244,12 +244,21 @@ fn a_refusal_writes_no_file() {
     let ten = "refused 10: a hanging edge\n";
     refuses(
         desk.run(&["check", "hanging"]),
-        &format!("{ten}record 1 edge 2\n"),
+        &format!("{ten}record 1 edge 1\n"),
     );
     desk.write("choice", &second::selection(1, 0, &[0]));
     refuses(desk.run(&["refine", "hanging", "choice", "old"]), ten);
-    let place = format!("{ten}record 1 edge 2\n");
+    let place = format!("{ten}record 1 edge 1\n");
     refuses(desk.run(&["select", "hanging", "new", "1"]), &place);
+
+    let mut left = decode(&k());
+    left.records[0] = turned(&left.records[0], 2, 3);
+    desk.write("left", &left.bytes());
+    let negative = "refused 22: a base record with a negative value\n";
+    refuses(desk.run(&["check", "left"]), negative);
+    refuses(desk.run(&["refine", "left", "choice", "old"]), negative);
+    refuses(desk.run(&["take-back", "left", "choice", "new"]), negative);
+    refuses(desk.run(&["select", "left", "new", "0"]), negative);
 
     let one = format!("refused 1: {}\n", second::reason(1));
     desk.write("short", &k()[..30]);
@@ -263,7 +272,7 @@ fn a_refusal_writes_no_file() {
     assert_eq!(desk.read("old"), b"old");
     assert_eq!(
         desk.files(),
-        ["choice", "hanging", "k", "off.txt", "old", "short"]
+        ["choice", "hanging", "k", "left", "off.txt", "old", "short"]
     );
 }
 

@@ -24,7 +24,11 @@ impl Plain {
         let mut different = piece.to_vec();
         different.sort_unstable();
         different.dedup();
-        different.len() == 4 && marked(&self.places, &[(piece, 0, [0; 4])]).sixfold(0) != 0
+        different.len() == 4 && self.signed(piece) != 0
+    }
+
+    fn signed(&self, piece: [u16; 4]) -> i64 {
+        marked(&self.places, &[(piece, 0, [0; 4])]).signed(0)
     }
 
     fn face_count(&self, face: [u16; 3]) -> usize {
@@ -57,6 +61,17 @@ impl Plain {
             *piece = piece.map(|corner| numbers[corner as usize]);
         }
         Plain { places, pieces }
+    }
+
+    /// The same pieces, all of them right-handed: of a left-handed one any two corners are exchanged.
+    fn right_handed(mut self, random: &mut Random) -> Plain {
+        for n in 0..self.pieces.len() {
+            if self.signed(self.pieces[n]) < 0 {
+                let (one, other) = CODES[random.below(6)];
+                self.pieces[n].swap(one, other);
+            }
+        }
+        self
     }
 
     fn coordinates(&self) -> Vec<i16> {
@@ -215,8 +230,12 @@ fn random_mesh(random: &mut Random, most: usize) -> Vec<u8> {
         block(random, sides, keep)
     };
     let job = random.next() as u32;
-    let stored = match random.below(3) {
-        0 => decode(&build_vec(job, &plain.coordinates(), &plain.corners()).unwrap()),
+    let way = random.below(3);
+    if way == 0 {
+        return build_vec(job, &plain.coordinates(), &plain.corners()).unwrap();
+    }
+    let plain = plain.right_handed(random);
+    let stored = match way {
         1 => marked_by_order(random, &plain),
         _ => (0..50)
             .find_map(|_| marked_freely(random, &plain))
@@ -368,6 +387,7 @@ fn figures_hold(mesh: &[u8]) {
     assert_eq!(report.deepest, generations.max().unwrap() as u64);
     let sum: u64 = leaves.iter().map(|&n| stored.sixfold(n as usize)).sum();
     assert_eq!(report.sixfold, sum);
+    right_handed_by_halves(&stored);
     let listing = String::from_utf8(list(mesh)).unwrap();
     assert_eq!(listing.lines().count(), 1 + leaves.len());
 }
@@ -525,10 +545,10 @@ fn random_meshes_near_the_limits() {
     for round in 0..16 {
         let mesh = if round % 2 == 0 {
             let plain = block(&mut random, [7, 7, 8], 100);
-            let built = build_vec(1, &plain.coordinates(), &plain.corners()).unwrap();
             if round % 4 == 0 {
-                built
+                build_vec(1, &plain.coordinates(), &plain.corners()).unwrap()
             } else {
+                let plain = plain.right_handed(&mut random);
                 marked_by_order(&mut random, &plain).bytes()
             }
         } else {
@@ -687,7 +707,7 @@ fn damage(random: &mut Random, stored: &mut Stored) {
         1 => random.next() as u16,
         _ => random.below(bound + 2) as u16,
     };
-    match random.below(22) {
+    match random.below(23) {
         0 => stored.vertices[v].place[random.below(3)] += [-32, -1, 1, 16, 32, 64][random.below(6)],
         1 => stored.vertices[v].place = stored.vertices[random.below(vertices)].place,
         2 => stored.vertices[v].parents[random.below(2)] = some_number(random, vertices),
@@ -714,6 +734,16 @@ fn damage(random: &mut Random, stored: &mut Stored) {
             stored.base_vertices = (stored.base_vertices as usize + random.below(3)) as u16 - 1;
         }
         19 => stored.base_records = (stored.base_records as usize + random.below(3)) as u16 - 1,
+        // A base record in the other hand, its marks along if they are marks.
+        20 => {
+            let r = random.below((stored.base_records as usize).clamp(1, records));
+            let (one, other) = CODES[random.below(6)];
+            let record = stored.records[r];
+            let different = BTreeSet::from(record.corners).len() == 4;
+            if different && record.edge < 6 && record.marks.iter().all(|&m| m < 6) {
+                stored.records[r] = turned(&record, one, other);
+            }
+        }
         // A cut that is not closed: often a hanging edge and nothing else.
         _ => {
             let mut leaves = stored.leaves();
@@ -739,7 +769,7 @@ fn damaged_meshes() {
     let seed = seed() + 3;
     println!("seed {seed}");
     let mut random = Random(seed);
-    let mut given = [0u32; 11];
+    let mut given = [0u32; 23];
     for _ in 0..250 {
         let mut mesh = random_mesh(&mut random, 6);
         for _ in 0..random.below(4) {
@@ -799,7 +829,9 @@ fn damaged_meshes() {
         }
     }
     println!("numbers given: {given:?}");
-    assert!(given.iter().all(|&count| count > 0));
+    for number in (0..=10).chain([22]) {
+        assert!(given[number] > 0, "{number}");
+    }
 }
 
 #[test]
@@ -807,7 +839,7 @@ fn bytes_of_any_sort() {
     let seed = seed() + 4;
     println!("seed {seed}");
     let mut random = Random(seed);
-    let mut given = [0u32; 22];
+    let mut given = [0u32; 23];
     for _ in 0..30_000 {
         // Headers that fit their length, so that what follows is looked at.
         let (vertices, records) = (4 + random.below(8), 1 + random.below(6));
@@ -887,6 +919,7 @@ fn bytes_of_any_sort() {
         let mut out = vec![0xAA; 60 + random.below(200)];
         let number = second::build(random.next() as u32, &coordinates, &corners, &mut out);
         given[number as usize] += 1;
+        assert_ne!(number, 22, "build never gives 22");
         if number == 0 {
             let length = 20 + 10 * vertices + 17 * pieces;
             assert_eq!(naive_check(&out[..length]), (0, 0, 0));
@@ -903,12 +936,77 @@ fn bytes_of_any_sort() {
     assert_eq!(selection(1, 1, &[6, 8, 11]), good);
 }
 
+/// Every hand of every piece gives one mesh, but for the slots of its corners: the same number, and the
+/// same edges marked.
+#[test]
+fn build_takes_pieces_of_either_hand() {
+    let seed = seed() + 7;
+    println!("seed {seed}");
+    let mut random = Random(seed);
+    let mut given = [0u32; 23];
+    for _ in 0..3_000 {
+        let count = 1 + random.below(6);
+        let mut plain = joined(&mut random, count);
+        // Half of the time something is wrong.
+        match random.below(8) {
+            0 => plain.places.push([32_736, 32_736, -32_736]),
+            1 => {
+                let mut again = plain.pieces[random.below(count)];
+                random.shuffle(&mut again);
+                plain.pieces.push(again);
+            }
+            2 => plain.pieces[random.below(count)][3] = random.below(plain.places.len() + 1) as u16,
+            3 => plain.places[0] = plain.places[1],
+            _ => {}
+        }
+        let number = |plain: &Plain| build_vec(3, &plain.coordinates(), &plain.corners());
+        let one = number(&plain);
+        for piece in &mut plain.pieces {
+            if random.below(2) == 0 {
+                let (one, other) = CODES[random.below(6)];
+                piece.swap(one, other);
+            }
+        }
+        let two = number(&plain);
+        match (one, two) {
+            (Ok(one), Ok(two)) => {
+                let [one, two] = [one, two].map(|bytes| decode(&bytes));
+                let told = |stored: &Stored| -> Vec<_> {
+                    let faces = |r: &Record| {
+                        let face = |i| (face_set(r.corners, i), ends(r, r.marks[i]));
+                        [0, 1, 2, 3]
+                            .map(face)
+                            .into_iter()
+                            .collect::<BTreeMap<_, _>>()
+                    };
+                    let records = stored.records.iter();
+                    records.map(|r| (ends(r, r.edge), faces(r))).collect()
+                };
+                assert_eq!(told(&one), told(&two));
+                right_handed_by_halves(&one);
+                right_handed_by_halves(&two);
+                given[0] += 1;
+            }
+            (one, two) => {
+                assert_eq!(one, two);
+                given[one.unwrap_err() as usize] += 1;
+            }
+        }
+    }
+    println!("numbers given: {given:?}");
+    for number in [0, 4, 5, 7, 8] {
+        assert!(given[number] > 50, "{number}: {}", given[number]);
+    }
+    assert_eq!(given.iter().sum::<u32>(), 3_000);
+    assert_eq!(given[22], 0);
+}
+
 #[test]
 fn marks_by_build_are_the_first_ranked() {
     let seed = seed() + 5;
     println!("seed {seed}");
     let mut random = Random(seed);
-    let (mut pieces, mut ties) = (0, 0);
+    let (mut pieces, mut ties, mut exchanged) = (0, 0, 0);
     for _ in 0..200 {
         let plain = if random.below(2) == 0 {
             joined(&mut random, 8)
@@ -918,8 +1016,12 @@ fn marks_by_build_are_the_first_ranked() {
         let built = decode(&build_vec(5, &plain.coordinates(), &plain.corners()).unwrap());
         assert_eq!((built.job, built.round), (5, 0));
         assert_eq!(built.records.len(), plain.pieces.len());
-        for (r, corners) in built.records.iter().zip(&plain.pieces) {
-            assert_eq!(r.corners, *corners);
+        for (r, &corners) in built.records.iter().zip(&plain.pieces) {
+            // "Build takes a left-handed piece by exchanging its last two corners before marking."
+            let [a, b, c, d] = corners;
+            let left = plain.signed(corners) < 0;
+            assert_eq!(r.corners, if left { [a, b, d, c] } else { corners });
+            exchanged += left as u32;
             let length = |edge: Pair| -> i128 {
                 let [p, q] = [edge.0, edge.1].map(|n| plain.places[n as usize]);
                 (0..3).map(|i| (p[i] as i128 - q[i] as i128).pow(2)).sum()
@@ -943,6 +1045,7 @@ fn marks_by_build_are_the_first_ranked() {
             pieces += 1;
         }
     }
-    println!("{pieces} pieces, {ties} ties");
+    println!("{pieces} pieces, {ties} ties, {exchanged} exchanged");
     assert!(pieces > 1_000 && ties > 10);
+    assert!(exchanged > pieces / 3 && exchanged < 2 * pieces / 3);
 }

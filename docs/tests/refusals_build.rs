@@ -1,8 +1,10 @@
-//! Build: the refusals it gives (21, 3, 4, 5, 7, 8, 20), and its marks.
+//! Build: the refusals it gives (21, 3, 4, 5, 7, 8, 20), its marks, and what it does with left-handed
+//! pieces: it never gives 22.
 
 mod common;
 use common::*;
 use second::{build, build_vec, check};
+use std::collections::BTreeMap;
 
 #[test]
 fn refusal_21() {
@@ -93,6 +95,11 @@ fn refusal_5() {
     // The second piece, after a good one.
     let five = [&k[..], &[64, 0, 64]].concat();
     build_refused("the second piece flat", &five, &[0, 1, 2, 3, 1, 2, 3, 4], 5);
+    // 5 judges the pieces as they are given: a left-handed one before or after changes nothing.
+    for pieces in [[0, 1, 3, 2, 1, 2, 3, 4], [1, 2, 3, 4, 0, 1, 3, 2]] {
+        build_refused("a left-handed piece and a flat one", &five, &pieces, 5);
+    }
+    build_refused("a left-handed piece", &five, &[0, 1, 3, 2, 0, 1, 2, 2], 5);
     // Far apart, where products no longer fit 32 bits but the volume is small.
     let thin = [-32_736, 0, 0, 32_736, 0, 0, 32_736, 32, 0, 32_736, 32, 32];
     let mesh = build_vec(7, &thin, &[0, 1, 2, 3]).unwrap();
@@ -159,7 +166,7 @@ fn every_subset_of_the_refusals_gets_the_first_that_build_tries() {
             .map(|i| order[i])
             .collect();
         let breaks = |number: u32| broken.contains(&number);
-        // The cube with a piece on the outside of its face 0 1 3.
+        // The cube with a piece on the outside of its face 0 1 3; four of the seven are left-handed.
         let mut coordinates = [cube_coordinates(64), vec![64, 0, -64]].concat();
         let mut corners = [&CUBE_CORNERS[..], &[0, 1, 3, 8]].concat();
         if breaks(8) {
@@ -198,8 +205,8 @@ fn marks_of_equal_lengths_go_by_vertex_numbers() {
     // In other slots: still the edge 1-2 first, then 1-3, then 2-3.
     let r = record(&[3, 2, 1, 0]);
     assert_eq!((r.edge, r.marks), (3, [3, 1, 0, 3]));
-    let r = record(&[2, 0, 3, 1]);
-    assert_eq!((r.edge, r.marks), (2, [5, 2, 2, 1]));
+    let r = record(&[2, 0, 1, 3]);
+    assert_eq!((r.edge, r.marks), (1, [5, 1, 2, 1]));
     // Of equal lengths and equal lower number the smaller higher one: 0-1 and 0-2 are longest.
     let coordinates = [0, 0, 96, 32, 0, 0, -32, 0, 0, 0, 32, 32];
     let r = decode(&build_vec(7, &coordinates, &[3, 2, 1, 0]).unwrap()).records[0];
@@ -208,8 +215,8 @@ fn marks_of_equal_lengths_go_by_vertex_numbers() {
     assert_eq!((r.edge, r.marks), (1, [3, 1, 0, 1]));
     // The lower number decides before the higher: 0-3 comes before 1-2.
     let coordinates = [0, 0, 0, 64, -64, 32, 64, 64, 32, 128, 0, 0];
-    let r = decode(&build_vec(7, &coordinates, &[0, 1, 2, 3]).unwrap()).records[0];
-    assert_eq!((r.edge, r.marks), (2, [3, 2, 2, 3]));
+    let r = decode(&build_vec(7, &coordinates, &[0, 1, 3, 2]).unwrap()).records[0];
+    assert_eq!((r.edge, r.marks), (1, [4, 1, 4, 1]));
 }
 
 #[test]
@@ -219,7 +226,114 @@ fn marks_of_lengths_beyond_32_bits() {
         -32_736, -32_736, -32_736, 32_736, 32_736, 32_736, 32_736, 32_704, 32_736, -32_736, 32_736,
         -32_704,
     ];
-    let r = decode(&build_vec(7, &coordinates, &[0, 1, 2, 3]).unwrap()).records[0];
+    let r = decode(&build_vec(7, &coordinates, &[0, 1, 3, 2]).unwrap()).records[0];
     // 0-1 is longest (3 · 65,472²), then 0-2; 1-3 and 2-3 differ in y only: 2-3 is longer.
-    assert_eq!((r.edge, r.marks), (0, [5, 1, 0, 0]));
+    assert_eq!(r.corners, [0, 1, 3, 2]);
+    assert_eq!((r.edge, r.marks), (0, [5, 2, 0, 0]));
+}
+
+/// Every order of the four slots, and whether it takes an odd number of exchanges.
+fn orders() -> Vec<([u16; 4], bool)> {
+    let mut orders = Vec::new();
+    for number in 0..256u16 {
+        let order = [0, 2, 4, 6].map(|shift| number >> shift & 3);
+        let falling = CODES.iter().filter(|(i, j)| order[*i] > order[*j]);
+        if CODES.iter().all(|(i, j)| order[*i] != order[*j]) {
+            orders.push((order, falling.count() % 2 == 1));
+        }
+    }
+    assert_eq!(orders.len(), 24);
+    orders
+}
+
+/// The refinement edge and each face with its mark, by vertices.
+fn marked_edges(r: &Record) -> (Pair, BTreeMap<[u16; 3], Pair>) {
+    let faces = (0..4).map(|i| (face_set(r.corners, i), ends(r, r.marks[i])));
+    (ends(r, r.edge), faces.collect())
+}
+
+/// "Build takes a left-handed piece by exchanging its last two corners before marking": K in every order
+/// of its corners.
+#[test]
+fn a_left_handed_piece() {
+    let mut exchanged = 0;
+    for (given, left) in orders() {
+        let mesh = build_vec(7, &K_COORDINATES, &given).unwrap();
+        let stored = decode(&mesh);
+        let r = stored.records[0];
+        let [a, b, c, d] = given;
+        assert_eq!(r.corners, if left { [a, b, d, c] } else { given });
+        exchanged += left as u32;
+        assert_eq!(stored.signed(0), 262_144);
+        assert_eq!(check(&mesh), check(&k()));
+        // The same edges are marked, in whatever codes.
+        assert_eq!(marked_edges(&r), marked_edges(&decode(&k()).records[0]));
+        // Exchanged after marking, the codes would be those of other edges.
+        if left {
+            let late = Record {
+                corners: r.corners,
+                ..turned(&r, 2, 3)
+            };
+            assert_ne!(marked_edges(&late), marked_edges(&r));
+        }
+    }
+    assert_eq!(exchanged, 12);
+    // K itself keeps its row.
+    assert_eq!(build_vec(7, &K_COORDINATES, &[0, 1, 3, 2]), Ok(k()));
+}
+
+/// Left- and right-handed pieces mixed: each keeps its place in the list, whatever its neighbours are.
+#[test]
+fn left_handed_pieces_among_others() {
+    let right = decode(&cube());
+    assert_eq!(right_handed_by_halves(&right), 6);
+    for bits in 0..64 {
+        let mut corners: Vec<u16> = right.records.iter().flat_map(|r| r.corners).collect();
+        for n in (0..6).filter(|n| bits >> n & 1 == 1) {
+            corners.swap(4 * n + 2, 4 * n + 3);
+        }
+        let mesh = build_vec(1, &cube_coordinates(64), &corners).unwrap();
+        assert_eq!(mesh, cube(), "{bits:06b}");
+        // Each place on the other side of the origin: now the others are exchanged.
+        let mirrored: Vec<i16> = cube_coordinates(64).iter().map(|x| -x).collect();
+        let stored = decode(&build_vec(1, &mirrored, &corners).unwrap());
+        assert_eq!(right_handed_by_halves(&stored), 6);
+        for (r, other) in stored.records.iter().zip(&right.records) {
+            let [a, b, c, d] = other.corners;
+            assert_eq!(r.corners, [a, b, d, c]);
+            assert_eq!(ends(r, r.edge), (0, 7));
+        }
+    }
+}
+
+/// 7 and 8 don't see the exchange: each number is the same for every hand of every piece.
+#[test]
+fn refusals_7_and_8_in_either_hand() {
+    let places: [[i16; 3]; 7] = [
+        [0, 0, 0],
+        [64, 0, 0],
+        [0, 64, 0],
+        [0, 0, 64],
+        [0, 32, -64],
+        [32, 0, -64],
+        [640, 640, 640],
+    ];
+    let coordinates = places.concat();
+    let cases: [(&[[u16; 4]], usize, u32); 4] = [
+        (&[[0, 1, 2, 3], [0, 1, 2, 4], [2, 5, 1, 0]], 6, 7),
+        (&[[0, 1, 2, 3], [0, 1, 2, 4], [3, 1, 0, 2]], 5, 7),
+        (&[[0, 1, 2, 3], [0, 1, 2, 4], [5, 1, 4, 0]], 6, 0),
+        (&[[0, 1, 2, 3], [0, 1, 2, 4], [5, 1, 4, 0]], 7, 8),
+    ];
+    for (pieces, vertices, number) in cases {
+        for bits in 0..8 {
+            let mut pieces = pieces.to_vec();
+            for n in (0..3).filter(|n| bits >> n & 1 == 1) {
+                pieces[n].swap(bits % 3, 3);
+            }
+            let mut out = vec![0xAA; FULL];
+            let given = build(7, &coordinates[..3 * vertices], &pieces.concat(), &mut out);
+            assert_eq!(given, number, "{pieces:?}");
+        }
+    }
 }

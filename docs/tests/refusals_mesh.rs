@@ -1,4 +1,5 @@
-//! Refusals 1 to 10: for each clause inputs that earn it, and inputs just short of it that don't.
+//! Refusals 1 to 10 and 22: for each clause inputs that earn it, and inputs just short of it that
+//! don't.
 
 mod common;
 use common::*;
@@ -146,11 +147,10 @@ fn refusal_4_base() {
         s.vertices.push(s.vertices[2]);
     });
     mesh_refused("an unused base vertex at another's place", &mesh, 4);
-    for good in [32_736, -32_736, 0, 32] {
-        let mesh = changed(&stored, |s| {
-            s.vertices[3].place[2] = good + 32 * (good == 0) as i16
-        });
-        mesh_accepted("on the grid", &mesh);
+    // On the grid; below the face of the other three the piece is left-handed.
+    for (good, number) in [(32_736, 0), (32, 0), (-32, 22), (-32_736, 22)] {
+        let mesh = changed(&stored, |s| s.vertices[3].place[2] = good);
+        assert_eq!(check(&mesh).number, number, "{good}");
     }
 }
 
@@ -226,8 +226,8 @@ fn not_4_a_made_vertex_at_another_vertexs_place() {
     let edge_0 = |corners| (corners, 0, [5, 5, 0, 0]);
     let pieces = [
         edge_0([0, 1, 2, 3]),
-        edge_0([4, 5, 6, 7]),
-        ([8, 1, 2, 6], 0, [5, 5, 0, 0]),
+        edge_0([4, 5, 7, 6]),
+        edge_0([8, 1, 6, 2]),
     ];
     let mut stored = marked(&places, &pieces);
     mesh_accepted("uncut", &stored.bytes());
@@ -290,6 +290,157 @@ fn refusal_5() {
         "another order",
         &build_vec(7, &K_COORDINATES, &[2, 0, 3, 1]).unwrap(),
     );
+}
+
+/// Each base record of the cube in the other hand, by each exchange of two corners.
+#[test]
+fn refusal_22() {
+    let stored = decode(&cube());
+    for n in 0..6 {
+        for (one, other) in CODES {
+            // The marks along: nothing else is wrong.
+            let mesh = changed(&stored, |s| {
+                s.records[n] = turned(&s.records[n], one, other)
+            });
+            mesh_refused("a left-handed base record", &mesh, 22);
+            // The corners alone: most marks are wrong too.
+            let mesh = changed(&stored, |s| s.records[n].corners.swap(one, other));
+            mesh_refused("two corners exchanged", &mesh, 22);
+            // Two exchanges make it right again: another order of the same piece.
+            let mesh = changed(&stored, |s| {
+                s.records[n] = turned(&turned(&s.records[n], one, other), 0, 1)
+            });
+            mesh_accepted("two exchanges", &mesh);
+            assert_eq!(check(&mesh), check(&cube()));
+        }
+    }
+    // All of them, as in a mesh that is seen in a mirror.
+    let mirrored = changed(&stored, |s| {
+        for v in &mut s.vertices {
+            v.place[1] = -v.place[1];
+        }
+    });
+    mesh_refused("the mirrored cube", &mirrored, 22);
+    // The largest value and the smallest, of either sign.
+    let sized = |x: i16, y: i16, z: i16| {
+        changed(&k_stored(), |s| {
+            let places = [[-x, -y, -z], [x, -y, -z], [x, y, -z], [x, y, z]];
+            for (v, place) in s.vertices.iter_mut().zip(places) {
+                v.place = place;
+            }
+        })
+    };
+    for [x, y, z] in [[32_736; 3], [32; 3], [32, 32, 32_736], [32_736, 32, 32]] {
+        mesh_accepted("right-handed", &sized(x, y, z));
+        mesh_refused("left-handed", &sized(-x, y, z), 22);
+        mesh_refused("left-handed", &sized(x, y, -z), 22);
+        mesh_refused("left-handed", &sized(-x, -y, -z), 22);
+    }
+}
+
+/// "Tried after 5": a flat record anywhere is 5, also behind a negative one.
+#[test]
+fn refusal_22_after_5() {
+    let stored = decode(&cube());
+    for left in 0..6 {
+        for bad in (0..6).filter(|&bad| bad != left) {
+            let with = |change: &dyn Fn(&mut Record)| {
+                changed(&stored, |s| {
+                    s.records[left] = turned(&s.records[left], 2, 3);
+                    change(&mut s.records[bad]);
+                })
+            };
+            // The corners 0 1 3 2 lie in a plane.
+            let flat = with(&|r| r.corners = [0, 1, 3, 2]);
+            mesh_refused("a flat record too", &flat, 5);
+            mesh_refused(
+                "equal corners too",
+                &with(&|r| r.corners[1] = r.corners[0]),
+                5,
+            );
+            mesh_refused(
+                "a corner not in the base too",
+                &with(&|r| r.corners[2] = 8),
+                5,
+            );
+            mesh_refused("a flag too", &with(&|r| r.flag = 1), 5);
+            mesh_refused("a generation too", &with(&|r| r.generation = 1), 5);
+        }
+    }
+    // The same record: its value is negative, and its flag is not 0.
+    let mesh = changed(&stored, |s| {
+        s.records[3] = turned(&s.records[3], 0, 1);
+        s.records[3].flag = 1;
+    });
+    mesh_refused("one record", &mesh, 5);
+}
+
+/// "Tried ... before 6", and so before 7, 8, 9 and 10.
+#[test]
+fn refusal_22_before_6() {
+    let stored = decode(&cube());
+    for left in 0..6 {
+        for bad in (0..6).filter(|&bad| bad != left) {
+            let mesh = changed(&stored, |s| {
+                s.records[left] = turned(&s.records[left], 1, 3);
+                s.records[bad].marks[2] = 6;
+            });
+            mesh_refused("22 and 6", &mesh, 22);
+            let mesh = changed(&stored, |s| {
+                s.records[bad] = s.records[(bad + 1) % 6];
+                s.records[left] = turned(&stored.records[left], 0, 2);
+            });
+            mesh_refused("22 and 7", &mesh, 22);
+        }
+        let left_in = |stored: &Stored, change: &dyn Fn(&mut Stored)| {
+            changed(stored, |s| {
+                s.records[left] = turned(&s.records[left], 2, 3);
+                change(s);
+            })
+        };
+        let mesh = left_in(&stored, &|s| {
+            s.vertices.push(Vertex {
+                place: [0, 0, 640],
+                parents: [NONE; 2],
+            });
+            s.base_vertices += 1;
+        });
+        mesh_refused("22 and 8", &mesh, 22);
+        // Cut: the children are no longer what cutting gives.
+        let cut = decode(&refined(&cube(), &[0]));
+        mesh_refused("22 and 9", &left_in(&cut, &|_| {}), 22);
+        let mut hanging = stored.clone();
+        cut_one(&mut hanging, (left as u16 + 1) % 6, Way::Right);
+        mesh_refused("22 and 10", &left_in(&hanging, &|_| {}), 22);
+    }
+}
+
+/// "Base records only": a later record in the other hand isn't what cutting gives.
+#[test]
+fn not_22_beyond_the_base() {
+    let stored = k2();
+    assert_eq!(right_handed_by_halves(&stored), 7);
+    for n in 1..7 {
+        for (one, other) in CODES {
+            let mesh = changed(&stored, |s| {
+                s.records[n] = turned(&s.records[n], one, other)
+            });
+            mesh_refused("a child in the other hand", &mesh, 9);
+        }
+    }
+    // The base record and all below it, cut as they stand: the base record alone earns the number.
+    for (one, other) in CODES {
+        let mut left = k_stored();
+        left.records[0] = turned(&left.records[0], one, other);
+        cut_one(&mut left, 0, Way::Right);
+        cut_one(&mut left, 1, Way::Right);
+        cut_one(&mut left, 2, Way::Right);
+        let values: Vec<i64> = (0..7).map(|n| left.signed(n)).collect();
+        assert_eq!(values[0], -262_144);
+        assert_eq!(values[1..3], [-131_072; 2]);
+        assert_eq!(values[3..], [-65_536; 4]);
+        mesh_refused("cut, and left-handed throughout", &left.bytes(), 22);
+    }
 }
 
 #[test]
@@ -363,7 +514,7 @@ fn refusal_7() {
     mesh_refused("a face in three, stored", &stored.bytes(), 7);
     let mut four = stored.clone();
     four.records.push(Record {
-        corners: [0, 1, 2, 5],
+        corners: [1, 0, 2, 5],
         ..alone.records[0]
     });
     four.base_records = 4;
@@ -381,22 +532,27 @@ fn refusal_7() {
     let other_order = changed(&k_stored(), |s| {
         s.base_records = 2;
         s.records.push(Record {
-            corners: [3, 1, 2, 0],
-            edge: 2,
-            marks: [5, 2, 2, 0],
+            corners: [3, 2, 1, 0],
             ..s.records[0]
         });
     });
     mesh_refused("the same four corners in another order", &other_order, 7);
 
     // The shared face 0 1 2 is face 3 of both; its mark may be 01, 02 or 12.
-    for one in [0, 1, 3] {
-        for other in [0, 1, 3] {
-            let mesh = two_on_a_face([0, 1, 2, 4], (one, other)).bytes();
-            if one == other {
-                mesh_accepted("a shared face with one mark", &mesh);
-            } else {
-                mesh_refused("a shared face with two marks", &mesh, 7);
+    for slots in [[1, 0, 2, 4], [0, 2, 1, 4], [2, 1, 0, 4]] {
+        for one in [0, 1, 3] {
+            for other in [0, 1, 3] {
+                let stored = two_on_a_face(slots, (one, other));
+                let [first, second] = [0, 1].map(|n| {
+                    let record = &stored.records[n];
+                    ends(record, record.marks[3])
+                });
+                let mesh = stored.bytes();
+                if first == second {
+                    mesh_accepted("a shared face with one mark", &mesh);
+                } else {
+                    mesh_refused("a shared face with two marks", &mesh, 7);
+                }
             }
         }
     }
@@ -669,17 +825,23 @@ fn refusal_9_a_generation_above_15() {
 
 #[test]
 fn refusal_10() {
-    // The cube with one of six cut: the diagonal hangs in the others, where its code is 2.
+    // The cube with one of six cut: the diagonal hangs in the others. Its code is 2, and 1 where build
+    // has exchanged the last two corners.
+    let uncut = decode(&cube());
+    let codes: Vec<u64> = uncut.records.iter().map(|r| r.edge.into()).collect();
+    assert_eq!(codes, [2, 1, 1, 2, 2, 1]);
     for cut in 0..6 {
         let mut stored = decode(&cube());
         cut_one(&mut stored, cut, Way::Right);
         let first = if cut == 0 { 1 } else { 0 };
-        mesh_refused_at("one of six", &stored.bytes(), 10, (first, 2));
+        let place = (first as u64, codes[first]);
+        mesh_refused_at("one of six", &stored.bytes(), 10, place);
     }
     let mut stored = decode(&cube());
     for (cut, first) in [(0, 1), (1, 2), (3, 2), (2, 4), (4, 5)] {
         cut_one(&mut stored, cut, Way::Right);
-        mesh_refused_at("more of six", &stored.bytes(), 10, (first, 2));
+        let place = (first as u64, codes[first]);
+        mesh_refused_at("more of six", &stored.bytes(), 10, place);
     }
     cut_one(&mut stored, 5, Way::Right);
     mesh_accepted("all six", &stored.bytes());
@@ -706,11 +868,18 @@ fn refusal_10_places() {
     let coordinates = places.concat();
     for (corners, code) in [
         ([0, 1, 2, 3], 0),
-        ([0, 2, 1, 3], 1),
-        ([1, 2, 3, 0], 2),
-        ([2, 1, 0, 3], 3),
-        ([2, 0, 3, 1], 4),
+        ([0, 3, 1, 2], 1),
+        ([1, 3, 2, 0], 2),
+        ([3, 1, 0, 2], 3),
+        ([2, 1, 3, 0], 4),
         ([3, 2, 1, 0], 5),
+        // Left-handed: build exchanges the last two.
+        ([0, 1, 3, 2], 0),
+        ([1, 2, 3, 0], 1),
+        ([0, 2, 1, 3], 2),
+        ([2, 0, 3, 1], 3),
+        ([2, 1, 0, 3], 4),
+        ([3, 2, 0, 1], 5),
     ] {
         let pieces = [&corners[..], &[0, 1, 4, 5]].concat();
         let mut stored = decode(&build_vec(7, &coordinates, &pieces).unwrap());
@@ -739,9 +908,9 @@ fn refusal_10_places() {
         // 12 is the refinement edge.
         o([0, 1, 2, 3], 3, [3, 1, 0, 3]),
         // 0-1, 0-2 and 0-3 are the refinement edges of three more pieces.
-        o([0, 1, 4, 5], 0, [5, 5, 0, 0]),
+        o([0, 1, 5, 4], 0, [5, 5, 0, 0]),
         o([0, 2, 6, 7], 0, [5, 5, 0, 0]),
-        o([0, 3, 8, 9], 0, [5, 5, 0, 0]),
+        o([0, 3, 9, 8], 0, [5, 5, 0, 0]),
     ];
     let mesh = marked(&places, &pieces);
     mesh_accepted("four pieces", &mesh.bytes());

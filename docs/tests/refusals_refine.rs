@@ -316,8 +316,13 @@ fn ladder(rungs: usize) -> Stored {
             }
         })
         .collect();
+    // The rungs turn to and fro, and so does the order in which a piece is right-handed.
+    let slots = |i: u16| match i % 2 {
+        0 => [1, 0, 2, 3],
+        _ => [0, 1, 2, 3],
+    };
     let pieces: Vec<_> = (0..rungs as u16)
-        .map(|i| ([0, 1, 2, 3].map(|n| 2 * i + n), 5, [5, 5, 0, 0]))
+        .map(|i| (slots(i).map(|n| 2 * i + n), 5, [5, 5, 0, 0]))
         .collect();
     marked(&places, &pieces)
 }

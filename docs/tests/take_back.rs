@@ -147,7 +147,7 @@ fn ring() -> Vec<u8> {
         [320, 640, 0],
         [384, 640, 64],
     ];
-    let pieces = [[0, 1, 2, 3], [2, 3, 4, 5], [4, 5, 0, 1]];
+    let pieces = [[0, 1, 2, 3], [2, 3, 4, 5], [4, 5, 1, 0]];
     marked(&places, &pieces.map(|corners| (corners, 0, [5, 5, 0, 0]))).bytes()
 }
 

@@ -94,10 +94,10 @@ fn k_select_0() {
     assert_eq!(refine(&k(), &selection(7, 0, &[0]), &mut out), 0);
     assert_eq!(out.to_vec(), k1().bytes());
     assert_eq!(check(&out), accepted(2, 1, 262_144));
-    assert_eq!([k1().sixfold(1), k1().sixfold(2)], [131_072; 2]);
+    assert_eq!([k1().signed(1), k1().signed(2)], [131_072; 2]);
     let read = mesh::Mesh::read(&out).unwrap();
-    assert_eq!(read.sixfold(&read.records[1]), Some(131_072));
-    assert_eq!(read.sixfold(&read.records[2]), Some(131_072));
+    assert_eq!(read.signed(&read.records[1]), Some(131_072));
+    assert_eq!(read.signed(&read.records[2]), Some(131_072));
     let mut short = [9; 120];
     assert_eq!(refine(&k(), &selection(7, 0, &[0]), &mut short), 20);
     assert_eq!(short, [0; 120]);
@@ -330,7 +330,9 @@ fn base_coordinates() {
     };
     for good in [32_736, -32_736, 32, -32] {
         assert!(with(good).is_ok(), "{good}");
-        assert_eq!(stored_with(good), 0, "{good}");
+        // Below the face of the other three the stored piece is left-handed, which build undoes.
+        let number = if good < 0 { 22 } else { 0 };
+        assert_eq!(stored_with(good), number, "{good}");
     }
     for bad in [16, -32_768, 1, -1, 31, 33, 32_735, 32_737, 32_767, -32_767] {
         assert_eq!(with(bad), Err(4), "{bad}");
@@ -350,4 +352,27 @@ fn a_named_leaf_of_generation_14_and_one_of_15() {
     assert_eq!(decode(&fifteen).records[leaf as usize].generation, 15);
     assert_eq!(refine_vec(&fifteen, &choose(&fifteen, &[leaf])), Err(17));
     assert_eq!(check(&fifteen).sixfold, 262_144);
+}
+
+/// "State that a child's signed value is exactly half of its parent's": of every record, down to
+/// generation 15.
+#[test]
+fn every_signed_value_is_half_of_its_parents() {
+    let mut records = 0;
+    let singles = [(1, 3), (2, 4), (1, 4), (2, 3), (5, 5), (1, 5), (5, 3)];
+    let singles = singles.map(|marks| single(marks).bytes());
+    for base in [k(), cube()].into_iter().chain(singles) {
+        let mesh = deepen(base, 15);
+        assert_eq!(check(&mesh).deepest, 15);
+        let stored = decode(&mesh);
+        records += right_handed_by_halves(&stored);
+        let read = mesh::Mesh::read(&mesh).unwrap();
+        for (n, record) in read.records.iter().enumerate() {
+            assert_eq!(read.signed(record), Some(stored.signed(n)));
+            // Fifteen halves of K's 262,144, which is 2^18, are 8.
+            let base = 262_144 >> record.generation;
+            assert_eq!(stored.signed(n), base);
+        }
+    }
+    assert!(records > 400, "{records}");
 }

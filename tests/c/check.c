@@ -76,9 +76,10 @@ static const char listed[] = "job 7 round 1 vertices 5 records 3 leaves 2 deepes
                              "1 0 1 2 4 edge 0 2 gen 1\n"
                              "2 4 1 2 3 edge 1 3 gen 1\n";
 
-/* K: its places, and its one piece. */
+/* K: its places, and its one piece; the same piece left-handed. */
 static const int16_t places[12] = {0, 0, 0, 64, 0, 0, 64, 64, 0, 64, 64, 64};
 static const uint16_t piece[4] = {0, 1, 2, 3};
+static const uint16_t left_handed[4] = {0, 1, 3, 2};
 
 static int failures = 0;
 
@@ -128,13 +129,14 @@ static void expect_written(const char *name, size_t room, uint32_t given, uint32
     }
 }
 
-/* Builds K, job 7, into so many bytes. */
-static void expect_built(const char *name, size_t room, uint32_t number, const uint8_t *wanted)
+/* Builds K, job 7, of these corners into so many bytes. */
+static void expect_built(const char *name, const uint16_t *corners, size_t room, uint32_t number,
+                         const uint8_t *wanted)
 {
     uint32_t given;
 
     fill();
-    given = tmb_build(7, places, 12, piece, 4, buffer + 1, room);
+    given = tmb_build(7, places, 12, corners, 4, buffer + 1, room);
     expect_written(name, room, given, number, wanted);
 }
 
@@ -192,7 +194,7 @@ int main(void)
 {
     struct tmb_report accepted = {0, 1, 0, 262144, 0, 0};
     struct tmb_report refused = {0, 0, 0, 0, 0, 0};
-    uint8_t changed[sizeof k], coarse[sizeof cut] = {0}, leaf[sizeof named];
+    uint8_t changed[sizeof k], turned[sizeof k], coarse[sizeof cut] = {0}, leaf[sizeof named];
     size_t i;
 
     expect("K", tmb_check(k, sizeof k), accepted);
@@ -204,6 +206,22 @@ int main(void)
     refused.number = 6;
     expect("K with another refinement edge", tmb_check(changed, sizeof changed), refused);
 
+    /* The last two corners exchanged: left-handed, and refused so before 6. */
+    for (i = 0; i < sizeof k; i++)
+        turned[i] = k[i];
+    turned[64] = 3;
+    turned[66] = 2;
+    refused.number = 22;
+    expect("K left-handed", tmb_check(turned, sizeof turned), refused);
+    turned[68] = 5;
+    expect("K left-handed with another refinement edge", tmb_check(turned, sizeof turned), refused);
+
+    /* A flag comes before both. */
+    turned[73] = 1;
+    refused.number = 5;
+    expect("K left-handed with its flag set", tmb_check(turned, sizeof turned), refused);
+    turned[73] = 0;
+
     /* Under 20 bytes. */
     refused.number = 1;
     expect("nothing", tmb_check(k, 0), refused);
@@ -211,9 +229,11 @@ int main(void)
     /* A byte short. */
     expect("K without its last byte", tmb_check(k, sizeof k - 1), refused);
 
-    expect_built("K built into 77 bytes", 77, 0, k);
-    expect_built("K built into 76 bytes", 76, 20, NULL);
-    expect_built("K built into none", 0, 20, NULL);
+    expect_built("K built into 77 bytes", piece, 77, 0, k);
+    expect_built("K built into 76 bytes", piece, 76, 20, NULL);
+    expect_built("K built into none", piece, 0, 20, NULL);
+    expect_built("K left-handed built into 77 bytes", left_handed, 77, 0, k);
+    expect_built("K left-handed built into 76 bytes", left_handed, 76, 20, NULL);
 
     expect_refined("K refined into 121 bytes", k, sizeof k, sizeof selected, 121, 0, cut);
     expect_refined("K refined into 120 bytes", k, sizeof k, sizeof selected, 120, 20, NULL);
@@ -221,6 +241,7 @@ int main(void)
     expect_refined("the selection again", cut, sizeof cut, sizeof selected, 121, 14, NULL);
     expect_refined("no selection", k, sizeof k, 0, 121, 11, NULL);
     expect_refined("no mesh", k, 0, sizeof selected, 121, 1, NULL);
+    expect_refined("K left-handed refined", turned, sizeof turned, sizeof selected, 121, 22, NULL);
 
     /* K of round 2, and zeros past it; record 1, a leaf, in the request's only number. */
     for (i = 0; i < sizeof k; i++)
@@ -241,6 +262,7 @@ int main(void)
     expect_taken_back("a leaf", cut, sizeof cut, leaf, sizeof leaf, 121, 30, NULL);
     expect_taken_back("no request", cut, sizeof cut, named, 0, 121, 11, NULL);
     expect_taken_back("no mesh", cut, 0, named, sizeof named, 121, 1, NULL);
+    expect_taken_back("K left-handed", turned, sizeof turned, named, sizeof named, 121, 22, NULL);
 
     expect_listed("K cut listed into its length", cut, sizeof cut, strlen(listed), 0, listed);
     expect_listed("K cut listed into a byte less", cut, sizeof cut, strlen(listed) - 1, 20, "");
@@ -248,6 +270,8 @@ int main(void)
     expect_listed("K cut listed into more", cut, sizeof cut, 393344, 0, listed);
     expect_listed("K refused into its line", changed, sizeof changed, 10, 6, "refused 6\n");
     expect_listed("K refused into a byte less", changed, sizeof changed, 9, 6, "");
+    expect_listed("K left-handed into its line", turned, sizeof turned, 11, 22, "refused 22\n");
+    expect_listed("K left-handed into a byte less", turned, sizeof turned, 10, 22, "");
     expect_listed("no mesh into more", k, 0, 121, 1, "refused 1\n");
 
     if (failures == 0)

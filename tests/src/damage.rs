@@ -1,16 +1,16 @@
 //! Damage to a stored mesh: most of it breaks one rule, some of it leaves an accepted mesh.
 
-use crate::meshes::{cut_alone, face_set, halfway, pair, Pair};
+use crate::meshes::{cut_alone, face_set, halfway, in_slots, pair, signed, turned, Pair};
 use crate::random::Random;
 use second::mesh::{Mesh, Record, Vertex, NO_NUMBER};
-use second::piece::{code, ends, on_face, slots, EDGES};
+use second::piece::{ends, on_face, slots, EDGES};
 use second::{MOST_RECORDS, MOST_VERTICES};
 
 /// Changes the mesh; false if it has nothing to be changed so.
 type Damage = fn(&mut Mesh, &mut Random) -> bool;
 
 /// Each kind of damage by name.
-pub const KINDS: [(&str, Damage); 40] = [
+pub const KINDS: [(&str, Damage); 44] = [
     ("vertex moved by one", vertex_moved_by_one),
     ("base vertex moved on the grid", base_vertex_moved),
     ("coordinate at a bound", coordinate_at_a_bound),
@@ -29,6 +29,16 @@ pub const KINDS: [(&str, Damage); 40] = [
     ("two corners exchanged", corners_exchanged),
     ("equal corners", equal_corners),
     ("flat piece", flat_piece),
+    ("base record in the other hand", in_the_other_hand),
+    (
+        "in the other hand, with a bad mark",
+        in_the_other_hand_badly,
+    ),
+    (
+        "in the other hand, and a flat one",
+        in_the_other_hand_and_flat,
+    ),
+    ("all in the other hand", all_in_the_other_hand),
     ("flag", flag_changed),
     ("generation", generation_changed),
     ("marks swapped", marks_swapped),
@@ -241,6 +251,54 @@ fn flat_piece(mesh: &mut Mesh, random: &mut Random) -> bool {
     true
 }
 
+/// Two corners exchanged, the marks along: only its hand is another.
+fn in_the_other_hand(mesh: &mut Mesh, random: &mut Random) -> bool {
+    let number = any_base_record(mesh, random);
+    let Some(record) = turned(&mesh.records[number], EDGES[random.below(6)]) else {
+        return false;
+    };
+    mesh.records[number] = record;
+    true
+}
+
+/// And a mark of it, or of another base record, that is on no face.
+fn in_the_other_hand_badly(mesh: &mut Mesh, random: &mut Random) -> bool {
+    let turned = in_the_other_hand(mesh, random);
+    let number = any_base_record(mesh, random);
+    mesh.records[number].marks[random.below(4)] = 6 + random.below(250) as u8;
+    turned
+}
+
+/// And a base record, most of the time another, whose corners are not four or lie in a plane.
+fn in_the_other_hand_and_flat(mesh: &mut Mesh, random: &mut Random) -> bool {
+    let turned = in_the_other_hand(mesh, random);
+    let flat = any_base_record(mesh, random);
+    let places = mesh.records[flat].corners.map(|corner| mesh.place(corner));
+    let [Some(a), Some(b), Some(c), _] = places else {
+        return false;
+    };
+    // The three corners themselves, and each vertex in their plane.
+    let in_plane = |number: &u16| {
+        let place = mesh.place(*number);
+        place.is_some_and(|place| signed([a, b, c, place]) == 0)
+    };
+    let numbers: Vec<u16> = (0..mesh.base_vertices as u16).filter(in_plane).collect();
+    let Some(corner) = random.pick(&numbers) else {
+        return false;
+    };
+    mesh.records[flat].corners[3] = corner;
+    turned
+}
+
+/// Seen in a mirror: every piece, cut or not, is what it was but for its hand.
+fn all_in_the_other_hand(mesh: &mut Mesh, random: &mut Random) -> bool {
+    let axis = random.below(3);
+    for vertex in &mut mesh.vertices {
+        vertex.place[axis] = vertex.place[axis].wrapping_neg();
+    }
+    true
+}
+
 fn flag_changed(mesh: &mut Mesh, random: &mut Random) -> bool {
     let record = any_record(mesh, random);
     mesh.records[record].flag = [0, 1, 1, 2, 255][random.below(5)];
@@ -297,25 +355,26 @@ fn edge_replaced(mesh: &mut Mesh, random: &mut Random) -> bool {
 fn in_other_slots(record: &Record, random: &mut Random) -> Option<Record> {
     let mut order = [0, 1, 2, 3];
     random.shuffle(&mut order);
-    let moved = |old: u8| {
-        let [one, other] = slots(old)?;
-        code(order[one], order[other])
-    };
-    let mut other = *record;
-    other.edge = moved(record.edge)?;
-    for (slot, new) in order.into_iter().enumerate() {
-        other.corners[new] = record.corners[slot];
-        other.marks[new] = moved(record.marks[slot])?;
-    }
-    other.first_child = NO_NUMBER;
-    Some(other)
+    Some(Record {
+        first_child: NO_NUMBER,
+        ..in_slots(record, order)?
+    })
 }
 
 fn same_four_corners(mesh: &mut Mesh, random: &mut Random) -> bool {
     let record = mesh.records[any_base_record(mesh, random)];
-    match in_other_slots(&record, random) {
+    match in_other_slots(&record, random).and_then(|again| right_handed(mesh, again, random)) {
         Some(again) => insert_base_record(mesh, again),
         None => false,
+    }
+}
+
+/// The piece, or the same in the other hand, whichever is right-handed; now and then as it is, so that 22 and
+/// what its place breaks come together.
+fn right_handed(mesh: &Mesh, record: Record, random: &mut Random) -> Option<Record> {
+    match mesh.is_left_handed(&record) && !random.one_in(6) {
+        true => turned(&record, EDGES[random.below(6)]),
+        false => Some(record),
     }
 }
 
@@ -424,7 +483,10 @@ fn set_on_face(mesh: &mut Mesh, number: usize, face: usize, random: &mut Random)
         generation: 0,
         first_child: NO_NUMBER,
     };
-    insert_base_record(mesh, piece)
+    match right_handed(mesh, piece, random) {
+        Some(piece) => insert_base_record(mesh, piece),
+        None => false,
+    }
 }
 
 fn children_exchanged(mesh: &mut Mesh, random: &mut Random) -> bool {

@@ -1,6 +1,7 @@
 //! The proved services through their C functions, and meshes to compare them on with the second
 //! program: built, refined, renumbered and damaged at random. The picture of their times.
 
+pub mod buffers;
 pub mod damage;
 pub mod meshes;
 pub mod named;

@@ -2,7 +2,7 @@
 
 use crate::random::Random;
 use second::mesh::{Mesh, Record, Vertex, NO_NUMBER};
-use second::piece::{children, ends, on_face, slots, EDGES};
+use second::piece::{children, code, ends, on_face, slots, EDGES};
 use second::{build_vec, refine_vec, selection, MOST_RECORDS, MOST_VERTICES};
 use std::collections::{BTreeMap, BTreeSet};
 use std::f64::consts::TAU;
@@ -46,6 +46,36 @@ pub fn code_of(corners: [u16; 4], edge: Pair) -> u8 {
         .0
 }
 
+/// The signed determinant of four places: the last three less the first; "positive for right-handed".
+pub fn signed([a, b, c, d]: [[i16; 3]; 4]) -> i64 {
+    let less = |place: [i16; 3]| [0, 1, 2].map(|axis| i64::from(place[axis]) - i64::from(a[axis]));
+    let ([p, q, r], [s, t, u], [v, w, x]) = (less(b), less(c), less(d));
+    p * (t * x - u * w) - q * (s * x - u * v) + r * (s * w - t * v)
+}
+
+/// The same piece with its corners in other slots, edge and marks along; nothing if its codes are no
+/// piece's.
+pub fn in_slots(record: &Record, order: [usize; 4]) -> Option<Record> {
+    let moved = |old: u8| {
+        let [one, other] = slots(old)?;
+        code(order[one], order[other])
+    };
+    let mut other = *record;
+    other.edge = moved(record.edge)?;
+    for (slot, new) in order.into_iter().enumerate() {
+        other.corners[new] = record.corners[slot];
+        other.marks[new] = moved(record.marks[slot])?;
+    }
+    Some(other)
+}
+
+/// The same piece in the other hand: two of its corners exchanged, edge and marks along.
+pub fn turned(record: &Record, [one, other]: [usize; 2]) -> Option<Record> {
+    let mut order = [0, 1, 2, 3];
+    order.swap(one, other);
+    in_slots(record, order)
+}
+
 /// A plain mesh: places, and pieces by their corners.
 #[derive(Clone, Default)]
 pub struct Plain {
@@ -57,13 +87,30 @@ pub struct Plain {
 type Marking = (u8, [u8; 4]);
 
 impl Plain {
+    /// The signed determinant of a piece.
+    pub fn signed(&self, piece: [u16; 4]) -> i64 {
+        signed(piece.map(|corner| self.places[usize::from(corner)]))
+    }
+
+    /// The same pieces, all of them right-handed: of a left-handed one the two corners in these slots are
+    /// exchanged.
+    pub fn right_handed(mut self, mut slots: impl FnMut() -> [usize; 2]) -> Plain {
+        for number in 0..self.pieces.len() {
+            if self.signed(self.pieces[number]) < 0 {
+                let [one, other] = slots();
+                self.pieces[number].swap(one, other);
+            }
+        }
+        self
+    }
+
     /// Marked by build.
     pub fn built(&self, job: u32) -> Mesh {
         let bytes = build_vec(job, &self.places.concat(), &self.pieces.concat());
         Mesh::read(&bytes.expect("a plain mesh")).expect("a stored mesh")
     }
 
-    /// Marked by hand.
+    /// Marked by hand, in the slots given: left-handed pieces stay what they are.
     pub fn marked(&self, job: u32, markings: &[Marking]) -> Mesh {
         let vertex = |&place| Vertex {
             place,
@@ -146,14 +193,18 @@ impl Plain {
         Some(self.marked(random.number() as u32, &markings))
     }
 
-    /// Marked in one of the three ways.
+    /// Marked in one of the three ways, and right-handed: by build, or by exchanging any two corners.
     pub fn marked_anyhow(&self, random: &mut Random) -> Mesh {
-        match random.below(3) {
-            0 => self.built(random.number() as u32),
-            1 => self.marked_by_order(random),
+        let way = random.below(3);
+        if way == 0 {
+            return self.built(random.number() as u32);
+        }
+        let plain = self.clone().right_handed(|| EDGES[random.below(6)]);
+        match way {
+            1 => plain.marked_by_order(random),
             _ => (0..50)
-                .find_map(|_| self.marked_freely(random))
-                .unwrap_or_else(|| self.marked_by_order(random)),
+                .find_map(|_| plain.marked_freely(random))
+                .unwrap_or_else(|| plain.marked_by_order(random)),
         }
     }
 
@@ -300,7 +351,8 @@ pub fn ladder(pieces: u16) -> Plain {
     for rung in 0..pieces {
         plain.pieces.push([0, 1, 2, 3].map(|n| 2 * rung + n));
     }
-    plain
+    // The marks are the same either way.
+    plain.right_handed(|| [0, 1])
 }
 
 /// The refinement edge and the marks of each of a ladder's pieces.
@@ -333,7 +385,8 @@ pub fn ring(pieces: u16) -> Plain {
             .pieces
             .push([rungs[0][0], rungs[0][1], rungs[1][0], rungs[1][1]]);
     }
-    plain
+    // The marks are the same either way.
+    plain.right_handed(|| [2, 3])
 }
 
 /// The refinement edge and the marks of each of a ring's pieces.
@@ -478,7 +531,7 @@ pub fn single_pieces(random: &mut Random) -> Vec<Mesh> {
             for mark_b in on(b) {
                 let mut marks = [edge; 4];
                 (marks[a], marks[b]) = (mark_a, mark_b);
-                let plain = one_piece(random);
+                let plain = one_piece(random).right_handed(|| EDGES[random.below(6)]);
                 singles.push(plain.marked(random.number() as u32, &[(edge, marks)]));
             }
         }

@@ -1,14 +1,12 @@
 //! A stored mesh and the records that are named in it: what refine and take-back take. Both programs'
 //! services compared on it, and the selections that either refuses alike.
 
+use crate::buffers::both;
 use crate::meshes::{Plain, K};
 use crate::random::Random;
 use crate::{tmb_build, tmb_refine, tmb_take_back};
 use second::mesh::{Mesh, Record};
 use second::{refine, refine_vec, selection, take_back, take_back_vec, LARGEST_MESH};
-
-/// Bytes on both sides of the output buffer.
-const GUARD: usize = 64;
 
 /// What the services take, but for the output buffer. A request has a selection's layout.
 #[derive(Clone, PartialEq)]
@@ -107,8 +105,7 @@ pub struct Compared {
 }
 
 impl Compared {
-    /// Compares the two services with one output buffer, filled with junk before the call, guard bytes
-    /// on both sides. Gives the number and the buffer.
+    /// Compares the two services with one output buffer. Gives the number and the buffer.
     pub fn call(
         &mut self,
         services: &Services,
@@ -117,18 +114,16 @@ impl Compared {
         room: usize,
         random: &mut Random,
     ) -> (u32, Vec<u8>) {
-        // Not always at the same alignment.
-        let before = GUARD + random.below(8);
-        let whole = junk(random, before + room + GUARD);
-        let (mut proved, mut second) = (whole.clone(), whole.clone());
         let given = input.clone();
-        let part = before..before + room;
-        let out = &mut proved[part.clone()];
-        let number = (services.proved)(&given.mesh, &given.selection, out);
+        let answer = both(
+            room,
+            random,
+            |out| (services.proved)(&given.mesh, &given.selection, out),
+            |out| (services.second)(&input.mesh, &input.selection, out),
+        );
         assert!(given == *input, "{name}: inputs are only read");
-        let out = &mut second[part.clone()];
-        let wanted = (services.second)(&input.mesh, &input.selection, out);
-        if number != wanted || proved != second {
+        self.calls += 1;
+        answer.unwrap_or_else(|different| {
             // Beside the program that is running.
             let files = std::env::current_exe()
                 .expect("the program")
@@ -136,19 +131,9 @@ impl Compared {
             for (end, bytes) in [("mesh", &input.mesh), ("selection", &input.selection)] {
                 std::fs::write(files.with_extension(end), bytes).expect("it is written");
             }
-            let at = (0..whole.len()).find(|&at| proved[at] != second[at]);
-            panic!(
-                "{name}, {room} bytes: proved {number}, second {wanted}, first different byte {:?} \
-                 (guard bytes are below 0 or from {room}); the inputs are {}.*",
-                at.map(|at| at as i64 - before as i64),
-                files.display()
-            );
-        }
-        // Also without the second program.
-        assert_eq!(proved[..before], whole[..before], "{name}: guard bytes");
-        assert_eq!(proved[part.end..], whole[part.end..], "{name}: guard bytes");
-        self.calls += 1;
-        (number, proved[part].to_vec())
+            let files = files.display();
+            panic!("{name}, {different}; the inputs are {files}.*");
+        })
     }
 
     /// One input with output buffers of 0, one less than the result, the result, full-size and longer;
@@ -180,7 +165,8 @@ impl Compared {
             } else {
                 assert!(out.iter().all(|&byte| byte == 0), "{name}: zero throughout");
             }
-            self.before_20 += u64::from(number > 10 && number != 20 && room < length);
+            let of_selection = (11..20).contains(&number) || number == 30;
+            self.before_20 += u64::from(of_selection && room < length);
             if number == 20 {
                 assert!(room < length, "{name}: 20 in {room} bytes");
                 too_short = true;
@@ -217,16 +203,6 @@ pub fn sum(mine: &mut [u64], theirs: &[u64]) {
     mine.iter_mut()
         .zip(theirs)
         .for_each(|(mine, theirs)| *mine += theirs);
-}
-
-/// Bytes of any kind.
-fn junk(random: &mut Random, length: usize) -> Vec<u8> {
-    let mut bytes = Vec::with_capacity(length + 8);
-    while bytes.len() < length {
-        bytes.extend(random.number().to_le_bytes());
-    }
-    bytes.truncate(length);
-    bytes
 }
 
 pub fn read(bytes: &[u8]) -> Mesh {

@@ -1,9 +1,11 @@
 //! The proved build, through `tmb_build`, compared with the second program's on many inputs: number
 //! and every byte of the output buffer. COMPARED_SEED in the environment gives another seed.
 
-use compared::meshes::{cubes, full_base, joined, separate, thinned, Plain, K};
+use compared::buffers::both;
+use compared::meshes::{cubes, full_base, joined, separate, signed, thinned, Plain, K};
 use compared::random::Random;
 use compared::{tmb_build, tmb_check};
+use second::mesh::Mesh;
 use second::{build, check, LARGEST_MESH, MOST_RECORDS, MOST_VERTICES};
 use std::io::Write;
 use std::sync::atomic::{AtomicUsize, Ordering};
@@ -13,9 +15,6 @@ const FEWEST: u64 = 20_000;
 const FEWEST_OF_EACH: u64 = 1_000;
 /// In the order in which build tries them, then acceptance.
 const NUMBERS: [u32; 8] = [21, 3, 4, 5, 7, 8, 20, 0];
-
-/// Bytes on both sides of the output buffer.
-const GUARD: usize = 64;
 
 /// What build takes, but for the output buffer.
 #[derive(Clone, Debug, PartialEq)]
@@ -88,23 +87,6 @@ impl Input {
     }
 }
 
-/// Sixfold volume, sign and all.
-fn sixfold([a, b, c, d]: [[i16; 3]; 4]) -> i64 {
-    let less = |place: [i16; 3]| [0, 1, 2].map(|axis| i64::from(place[axis]) - i64::from(a[axis]));
-    let ([p, q, r], [s, t, u], [v, w, x]) = (less(b), less(c), less(d));
-    p * (t * x - u * w) - q * (s * x - u * v) + r * (s * w - t * v)
-}
-
-/// Bytes of any kind.
-fn junk(random: &mut Random, length: usize) -> Vec<u8> {
-    let mut bytes = Vec::with_capacity(length + 8);
-    while bytes.len() < length {
-        bytes.extend(random.number().to_le_bytes());
-    }
-    bytes.truncate(length);
-    bytes
-}
-
 /// What was compared.
 #[derive(Default)]
 struct Tally {
@@ -113,18 +95,19 @@ struct Tally {
     random: u64,
     calls: u64,
     /// Calls by the number given.
-    numbers: [u64; 22],
+    numbers: [u64; 23],
     /// Inputs by the number given where the output buffer is long enough.
-    by_input: [u64; 22],
+    by_input: [u64; 23],
     /// Calls by output buffer: 0, one less than the result, the result, full-size, longer.
     rooms: [u64; 5],
     /// Accepted inputs of 1,024 vertices, and of 3,072 pieces.
     full: [u64; 2],
+    /// Accepted pieces, given right-handed and left-handed.
+    hands: [u64; 2],
 }
 
 impl Tally {
-    /// Compares the two builds with one output buffer, filled with junk before the call, guard bytes
-    /// on both sides. Gives the number and the buffer.
+    /// Compares the two builds with one output buffer. Gives the number and the buffer.
     fn call(
         &mut self,
         name: &str,
@@ -132,39 +115,19 @@ impl Tally {
         room: usize,
         random: &mut Random,
     ) -> (u32, Vec<u8>) {
-        // Not always at the same alignment.
-        let before = GUARD + random.below(8);
-        let whole = junk(random, before + room + GUARD);
-        let (mut proved, mut second) = (whole.clone(), whole.clone());
         let given = input.clone();
-        let part = before..before + room;
-        let number = tmb_build(
-            given.job,
-            &given.coordinates,
-            &given.corners,
-            &mut proved[part.clone()],
+        let answer = both(
+            room,
+            random,
+            |out| tmb_build(given.job, &given.coordinates, &given.corners, out),
+            |out| build(input.job, &input.coordinates, &input.corners, out),
         );
         assert!(given == *input, "{name}: inputs are only read");
-        let wanted = build(
-            input.job,
-            &input.coordinates,
-            &input.corners,
-            &mut second[part.clone()],
-        );
-        if number != wanted || proved != second {
+        let (number, out) = answer.unwrap_or_else(|different| {
             let file = format!("{}/differs.txt", env!("CARGO_TARGET_TMPDIR"));
             std::fs::write(&file, format!("{room} {input:?}\n")).expect("the input is written");
-            let at = (0..whole.len()).find(|&at| proved[at] != second[at]);
-            panic!(
-                "{name}, {room} bytes: proved {number}, second {wanted}, first different byte {:?} \
-                 (guard bytes are below 0 or from {room}); the input is in {file}",
-                at.map(|at| at as i64 - before as i64)
-            );
-        }
-        // Also without the second program.
-        assert_eq!(proved[..before], whole[..before], "{name}: guard bytes");
-        assert_eq!(proved[part.end..], whole[part.end..], "{name}: guard bytes");
-        let out = proved[part].to_vec();
+            panic!("{name}, {different}; the input is in {file}");
+        });
         let written = if number == 0 { input.length() } else { 0 };
         assert!(out[written..].iter().all(|&byte| byte == 0), "{name}: zero");
         self.calls += 1;
@@ -208,12 +171,23 @@ impl Tally {
         answer
     }
 
-    /// Whatever build accepts, check accepts, with as many leaves as pieces and depth 0.
+    /// Whatever build accepts, check accepts, with as many leaves as pieces and depth 0. Each piece is in
+    /// its place, right-handed: of a left-handed one the last two corners are exchanged.
     fn judge(&mut self, name: &str, input: &Input, result: &[u8]) {
         let report = tmb_check(result);
         assert_eq!(report, check(result), "{name}");
         assert_eq!((report.number, report.deepest), (0, 0), "{name}");
         assert_eq!(report.leaves, input.pieces() as u64, "{name}");
+        let mesh = Mesh::read(result).expect("a stored mesh");
+        for (number, record) in mesh.records.iter().enumerate() {
+            let given = input.piece(number).expect("a piece");
+            let places = input.places_of(given).expect("four places");
+            let left = signed(places) < 0;
+            let [a, b, c, d] = given;
+            let wanted = if left { [a, b, d, c] } else { given };
+            assert_eq!(record.corners, wanted, "{name}: {number}");
+            self.hands[usize::from(left)] += 1;
+        }
         self.full[0] += u64::from(input.vertices() == MOST_VERTICES);
         self.full[1] += u64::from(input.pieces() == MOST_RECORDS);
     }
@@ -236,6 +210,7 @@ impl Tally {
         sum(&mut self.by_input, &other.by_input);
         sum(&mut self.rooms, &other.rooms);
         sum(&mut self.full, &other.full);
+        sum(&mut self.hands, &other.hands);
     }
 }
 
@@ -299,7 +274,7 @@ fn face_in_three(input: &mut Input, random: &mut Random) -> bool {
         let mut piece = [a, b, c, input.with_vertex(random)];
         if input
             .places_of(piece)
-            .is_none_or(|places| sixfold(places) == 0)
+            .is_none_or(|places| signed(places) == 0)
         {
             return false;
         }
@@ -467,7 +442,7 @@ fn bounds(tally: &mut Tally, random: &mut Random) {
             let mut input = k.clone();
             input.coordinates[at] = value;
             let places = input.places_of([0, 1, 2, 3]).expect("four places");
-            let number = if sixfold(places) == 0 { 5 } else { 0 };
+            let number = if signed(places) == 0 { 5 } else { 0 };
             tally.given("a coordinate at a bound", &input, number, random);
         }
         for value in bad {
@@ -589,7 +564,7 @@ fn fans(tally: &mut Tally, random: &mut Random) {
     more.pieces.push([0, 1, between, more.places.len() as u16]);
     more.places.push([32, 64, height + 32]);
     let last = more.pieces[pieces].map(|corner| more.places[usize::from(corner)]);
-    let number = if sixfold(last) == 0 { 5 } else { 7 };
+    let number = if signed(last) == 0 { 5 } else { 7 };
     let input = Input::new(&more.mixed(random), random);
     tally.given("a fan and a piece more", &input, number, random);
     let mixed = plain.mixed(random);
@@ -813,6 +788,7 @@ fn the_proved_build_and_the_second_agree() {
         tally.rooms
     ));
     line(format!("1,024 vertices, 3,072 pieces in {:?}", tally.full));
+    line(format!("right-handed, left-handed {:?}", tally.hands));
 
     assert!(tally.random >= FEWEST);
     for number in NUMBERS {
@@ -836,4 +812,5 @@ fn the_proved_build_and_the_second_agree() {
     );
     assert!(tally.rooms.iter().all(|&times| times >= FEWEST_OF_EACH));
     assert!(tally.full.iter().all(|&times| times >= 2));
+    assert!(tally.hands.iter().all(|&times| times >= 20_000));
 }

@@ -4,7 +4,7 @@
 use compared::damage::{damaged, KINDS};
 use compared::meshes::{
     cubes, cut_alone, deepened, filled, full_base, joined, open_leaves, random_base, refined,
-    refined_anyhow, separate, single_pieces, thinned, Plain, K,
+    refined_anyhow, separate, signed, single_pieces, thinned, Plain, K,
 };
 use compared::random::Random;
 use compared::renumber::{renumbered, with_any_pair_order, with_any_vertex_order};
@@ -15,7 +15,10 @@ use second::{check, Report, LARGEST_MESH, MOST_RECORDS, MOST_VERTICES};
 use std::io::Write;
 use std::sync::atomic::{AtomicUsize, Ordering};
 
-/// The fewest meshes, and the fewest answers of each number 0 to 10.
+/// The numbers that check can give, in the order in which their rules are tried; 0 last.
+const NUMBERS: [usize; 12] = [1, 2, 3, 4, 5, 22, 6, 7, 8, 9, 10, 0];
+
+/// The fewest meshes, and the fewest answers of each number.
 const FEWEST: u64 = 20_000;
 const FEWEST_OF_EACH: u64 = 1_000;
 
@@ -23,7 +26,7 @@ const FEWEST_OF_EACH: u64 = 1_000;
 #[derive(Default)]
 struct Tally {
     meshes: u64,
-    numbers: [u64; 11],
+    numbers: [u64; 23],
     renumbered: u64,
     /// Base records of accepted meshes, by type P, A, O, M.
     types: [u64; 4],
@@ -163,10 +166,10 @@ fn singles(tally: &mut Tally, random: &mut Random) {
     }
 }
 
-/// Four corners of the largest cube of the grid, in every order: the largest sixfold volumes; 5 where
-/// two are equal or all four lie in a plane.
+/// Four corners of the largest cube of the grid, in every order: the largest determinants of either sign,
+/// 22 for a negative one; 5 where two are equal or all four lie in a plane.
 fn largest_pieces(tally: &mut Tally, random: &mut Random) {
-    let mut solid = 0;
+    let mut solid = [0, 0];
     for tuple in 0..4_096 {
         let places = [0, 3, 6, 9].map(|shift| {
             let corner = tuple >> shift & 7;
@@ -178,15 +181,19 @@ fn largest_pieces(tally: &mut Tally, random: &mut Random) {
         };
         let mesh = plain.marked(1, &[(0, [3, 1, 0, 0])]);
         let number = tally.compare("a largest piece", &mesh.bytes()).number;
-        assert!([0, 4, 5].contains(&number), "a largest piece");
+        assert!([0, 4, 5, 22].contains(&number), "a largest piece");
+        let value = signed(places);
+        assert_eq!(number == 22, value < 0, "a largest piece");
+        assert_eq!(number == 0, value > 0, "a largest piece");
+        solid[0] += u32::from(number == 0);
+        solid[1] += u32::from(number == 22);
         if number == 0 {
-            solid += 1;
             let finer = refined(&mesh, &[0]).expect("there is room");
             tally.accepted_also_renumbered("a largest piece, refined", &finer, random);
         }
     }
-    // 58 of the 70 sets of four corners lie in no plane, each in 24 orders.
-    assert_eq!(solid, 58 * 24);
+    // 58 of the 70 sets of four corners lie in no plane, each in 24 orders, half of them right-handed.
+    assert_eq!(solid, [58 * 12; 2]);
 }
 
 /// To generation 15, by always naming a deepest leaf.
@@ -559,8 +566,8 @@ fn the_proved_check_and_the_second_agree() {
         "seed {seed} (COMPARED_SEED), {} meshes",
         tally.meshes
     ));
-    for (number, times) in tally.numbers.iter().enumerate() {
-        line(format!("number {number}: {times}"));
+    for number in NUMBERS {
+        line(format!("number {number}: {}", tally.numbers[number]));
     }
     line(format!("renumbered {}", tally.renumbered));
     line(format!("base records P, A, O, M {:?}", tally.types));
@@ -569,9 +576,12 @@ fn the_proved_check_and_the_second_agree() {
     line(format!("hanging edges 0 to 5 {:?}", tally.edges));
 
     assert!(tally.meshes >= FEWEST);
-    for (number, &times) in tally.numbers.iter().enumerate() {
+    let mut others = tally.numbers;
+    for number in NUMBERS {
+        let times = std::mem::take(&mut others[number]);
         assert!(times >= FEWEST_OF_EACH, "number {number}: {times} times");
     }
+    assert_eq!(others, [0; 23], "no other number");
     assert!(tally.renumbered >= 1_000);
     assert!(tally.types.iter().all(|&times| times >= 1_000));
     assert!(tally.deepest >= 10);

@@ -202,7 +202,7 @@ fn accepted_meshes_meet_face_to_face() {
 fn two_marks_on_a_face_do_not_meet() {
     let plain = Plain {
         places: vec![K[0], K[1], K[2], K[3], [64, 64, -64]],
-        pieces: vec![[0, 1, 2, 3], [0, 1, 2, 4]],
+        pieces: vec![[0, 1, 2, 3], [1, 0, 2, 4]],
     };
     let thrice = |markings: &[(u8, [u8; 4])]| {
         let mut mesh = plain.marked(6, markings);
@@ -223,9 +223,9 @@ fn two_marks_on_a_face_do_not_meet() {
         mesh.leaves().any(|(_, leaf)| edges(leaf))
     };
 
-    // Face 3 is marked 01 in both, then 01 in one and 12 in the other.
-    let alike = thrice(&[(0, [4, 1, 0, 0]), (0, [4, 1, 0, 0])]);
-    let apart = thrice(&[(0, [4, 1, 0, 0]), (3, [3, 5, 0, 3])]);
+    // The common face 0 1 2 is marked 0-1 in both, then 0-1 in one and 1-2 in the other.
+    let alike = thrice(&[(0, [4, 1, 0, 0]), (0, [3, 2, 0, 0])]);
+    let apart = thrice(&[(0, [4, 1, 0, 0]), (1, [5, 1, 0, 1])]);
     for mesh in [&alike, &apart] {
         assert_eq!((mesh.leaves().count(), hangs(mesh)), (16, false));
     }

@@ -61,7 +61,7 @@ job 7 round 1 vertices 5 records 3 leaves 2 deepest 1 sixfold 262144
 ";
 
 /// The stored inputs by name, each with the number that it gets.
-const STORED: [(&str, u64); 13] = [
+const STORED: [(&str, u64); 14] = [
     ("worked", 0),
     ("cube", 0),
     ("empty", 1),
@@ -75,6 +75,7 @@ const STORED: [(&str, u64); 13] = [
     ("unused-vertex", 8),
     ("children-exchanged", 9),
     ("hanging-edge", 10),
+    ("left-handed", 22),
 ];
 
 /// The listing program: LIST_PROGRAM in the environment, else the one that the gate builds.
@@ -268,10 +269,10 @@ struct Tally {
     inputs: u64,
     /// Inputs by the number that the listing gives, 0 where it lists, and by 20 where an output buffer is
     /// not long enough.
-    numbers: [u64; 21],
+    numbers: [u64; 23],
     /// Calls of the function by output buffer: 0, one less than the text, the text, full-size, longer.
     rooms: [u64; 5],
-    /// Calls given 1 to 10 with an output buffer shorter than the line: 20 comes last.
+    /// Calls given 1 to 10 or 22 with an output buffer shorter than the line: 20 comes last.
     before_20: u64,
     /// Inputs longer than the largest mesh, and those of them that check alone gives another number.
     longer: [u64; 2],
@@ -299,7 +300,7 @@ impl Tally {
             random,
             junk,
             inputs: 0,
-            numbers: [0; 21],
+            numbers: [0; 23],
             rooms: [0; 5],
             before_20: 0,
             longer: [0; 2],
@@ -973,7 +974,8 @@ fn compared(name: &str, lister: Lister) -> Tally {
 
     assert!(tally.inputs >= FEWEST[lister as usize]);
     assert!(tally.numbers[0] >= FEWEST_LISTED[lister as usize]);
-    for (number, &times) in tally.numbers[..11].iter().enumerate() {
+    for number in (0..=10).chain([22]) {
+        let times = tally.numbers[number];
         assert!(
             times >= FEWEST_OF_EACH[lister as usize],
             "number {number}: {times} times"

@@ -18,6 +18,11 @@ use second::{check, LARGEST_MESH, MOST_RECORDS, MOST_VERTICES};
 use std::io::Write;
 use std::sync::atomic::{AtomicUsize, Ordering};
 
+/// The numbers that refine can give, in the order in which their rules are tried; 0 last.
+const NUMBERS: [usize; 22] = [
+    1, 2, 3, 4, 5, 22, 6, 7, 8, 9, 10, 11, 12, 13, 14, 15, 16, 17, 18, 19, 20, 0,
+];
+
 /// The fewest inputs, the fewest of them that are random, the fewest that are accepted, and the fewest of
 /// each number that refine can give.
 const FEWEST: u64 = 25_000;
@@ -273,7 +278,7 @@ fn worked(tally: &mut Tally, random: &mut Random) {
     let all = tally.accepted("select 3 to 6", &from_there(&[3, 4, 5, 6]), random);
     assert_eq!(counts(&all), ([10, 15], 8));
     for (_, leaf) in all.leaves() {
-        assert_eq!(all.sixfold(leaf), Some(32_768));
+        assert_eq!(all.signed(leaf), Some(32_768));
     }
 
     let empty = tally.accepted("empty selection", &Input::new(&k, &[]), random);
@@ -888,7 +893,6 @@ fn the_proved_refine_and_the_second_agree() {
     });
 
     let both = &tally.both;
-    let numbers = &both.numbers[..=20];
     // Not by println, which a passing test keeps to itself.
     let mut out = std::io::stdout().lock();
     let mut line = |text: String| writeln!(out, "refine compared: {text}").expect("a line");
@@ -896,8 +900,8 @@ fn the_proved_refine_and_the_second_agree() {
         "seed {seed} (COMPARED_SEED), {} inputs, {} of them random, {} calls",
         both.inputs, tally.random, both.calls
     ));
-    for (number, times) in numbers.iter().enumerate() {
-        line(format!("number {number}: {times}"));
+    for number in NUMBERS {
+        line(format!("number {number}: {}", both.numbers[number]));
     }
     line(format!(
         "buffers of 0, one less, the result, full-size, longer {:?}",
@@ -926,10 +930,13 @@ fn the_proved_refine_and_the_second_agree() {
 
     assert!(both.inputs >= FEWEST);
     assert!(tally.random >= FEWEST_RANDOM);
-    assert!(numbers[0] >= FEWEST_ACCEPTED);
-    for (number, &times) in numbers.iter().enumerate() {
+    assert!(both.numbers[0] >= FEWEST_ACCEPTED);
+    let mut others = both.numbers;
+    for number in NUMBERS {
+        let times = std::mem::take(&mut others[number]);
         assert!(times >= FEWEST_OF_EACH, "number {number}: {times} times");
     }
+    assert_eq!(others, [0; 31], "no other number");
     assert!(both.rooms.iter().all(|&times| times >= 1_000));
     assert!(both.before_20 >= 1_000);
     assert!(tally.at_once >= 500);

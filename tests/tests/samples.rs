@@ -176,10 +176,15 @@ fn the_hole_is_round() {
     }
 }
 
-/// The leaves fill the hexahedra: no piece is inside out.
+/// The leaves fill the hexahedra, and no piece is inside out: whatever hand it has in the text, its signed value
+/// is positive as it is stored.
 #[test]
 fn the_volume_is_the_hexahedras() {
     for sample in samples() {
+        let mesh = Mesh::read(&sample.built()).unwrap();
+        let values = mesh.records.iter().map(|record| mesh.signed(record));
+        assert!(values.clone().all(|value| value > Some(0)));
+        assert_eq!(values.flatten().sum::<i64>() as u64, sample.volume());
         let report = tmb_check(&sample.built());
         assert_eq!((report.number, report.deepest), (0, 0), "{}", sample.name);
         assert_eq!(report.leaves, sample.pieces.len() as u64);

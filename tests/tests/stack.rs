@@ -28,7 +28,10 @@ fn the_services_take_no_more_than_a_quarter_of_a_mebibyte() {
         let checked = mesh.clone();
         assert_eq!(with_little_stack(move || tmb_check(&checked)).number, 0);
         let mut text = vec![0; 393_344];
-        assert_eq!(with_little_stack(move || tmb_list(&mesh, &mut text)).number, 0);
+        assert_eq!(
+            with_little_stack(move || tmb_list(&mesh, &mut text)).number,
+            0
+        );
     }
     let plain = cubes([8, 8, 8], 64);
     let (places, corners) = (plain.places.concat(), plain.pieces.concat());

@@ -21,8 +21,8 @@ use std::io::Write;
 use std::sync::atomic::{AtomicUsize, Ordering};
 
 /// The numbers that take-back can give, in the order in which their rules are tried; 0 last.
-const NUMBERS: [usize; 19] = [
-    1, 2, 3, 4, 5, 6, 7, 8, 9, 10, 11, 12, 13, 14, 15, 30, 18, 20, 0,
+const NUMBERS: [usize; 20] = [
+    1, 2, 3, 4, 5, 22, 6, 7, 8, 9, 10, 11, 12, 13, 14, 15, 30, 18, 20, 0,
 ];
 
 /// The fewest inputs, the fewest of them that are random, the fewest that are accepted, and the fewest of

@@ -211,6 +211,17 @@ pub fn poked(bytes: &[u8], at: usize, new: &[u8]) -> Vec<u8> {
     bytes
 }
 
+/// The bytes of a mesh with two corners of a record exchanged and nothing else.
+pub fn corners_exchanged(mesh: &[u8], record: usize, slots: [usize; 2]) -> Vec<u8> {
+    let vertices = Mesh::read(mesh).unwrap().vertices.len();
+    let [one, other] = slots.map(|slot| 20 + 10 * vertices + 17 * record + 2 * slot);
+    let mut bytes = mesh.to_vec();
+    for at in 0..2 {
+        bytes.swap(one + at, other + at);
+    }
+    bytes
+}
+
 /// The cube with one record cut and nothing closed.
 pub fn hanging() -> Vec<u8> {
     cut_first(&cube())

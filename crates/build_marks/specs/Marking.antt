@@ -1,5 +1,5 @@
--- Document 01, "Build and refine": how a plain piece is marked.
-use mathlib.Core.Bool.{Bool, true, not, _&&_}
+-- Document 01, "Build and refine": how a plain piece is marked; document 02, "Three": that it is made right-handed before.
+use mathlib.Core.Bool.{Bool, true, not, cond, _&&_}
 use mathlib.Core.List.{List, [], _∷_}
 use Prim.Native.Nat.{ℕ, _+_, _*_}
 use lib.ListN.{getD}
@@ -7,10 +7,11 @@ use lib.IntN.{ℤ, pos, natAbs, _+ℤ_}
 use Rattle.laws.specs.Below.{anyBelow, firstBelow}
 use Rattle.piece.specs.declared.Piece.{Piece}
 use Rattle.piece_edges.specs.Edges.{onFace}
-use Rattle.piece.specs.Ends.{endsOf}
+use Rattle.piece.specs.Ends.{cornerAt, endsOf}
 use Rattle.grid.specs.declared.Place.{Place}
 use Rattle.grid_lengths.specs.declared.Ranked.{Ranked}
-use Rattle.grid.specs.Places.{shift, pointOf}
+use Rattle.grid.specs.Places.{Point, shift, pointOf}
+use Rattle.grid_volume.specs.Volume.{leftHanded}
 use Rattle.grid_lengths.specs.Lengths.{squaredLength, ranksBefore}
 use Rattle.stored.specs.declared.Vertex.{Vertex}
 use Rattle.stored.specs.declared.Record.{Record}
@@ -43,6 +44,25 @@ plainPiece corners n =
       flag = 0;
       generation = 0;
     }
+
+-- Where the corner in slot k of a piece stands.
+abbrev pub plainPoint : List ℤ → Piece → ℕ → Point
+plainPoint coordinates p k = pointOf (plainPlace coordinates (cornerAt p k))
+
+-- "exchanging its last two corners": those in slots 2 and 3
+unfoldable pub lastExchanged : Piece → Piece
+lastExchanged p =
+    record {
+      corners = cornerAt p 0 ∷ cornerAt p 1 ∷ cornerAt p 3 ∷ cornerAt p 2 ∷ [];
+      edge = p .edge;
+      marks = p .marks;
+      flag = p .flag;
+      generation = p .generation;
+    }
+
+-- "Build takes a left-handed piece by exchanging its last two corners before marking."
+unfoldable pub rightedPiece : List ℤ → Piece → Piece
+rightedPiece coordinates p = cond (leftHanded (plainPoint coordinates p)) (lastExchanged p) p
 
 -- Edge e of a piece as it is ranked.
 unfoldable pub rankOf : List ℤ → Piece → ℕ → Ranked
@@ -77,5 +97,6 @@ markedPiece coordinates p =
       generation = 0;
     }
 
+-- Piece n as it is stored: first made right-handed, then marked.
 unfoldable pub plainRecord : List ℤ → List ℕ → ℕ → Record
-plainRecord coordinates corners n = record { piece = markedPiece coordinates (plainPiece corners n); «first_child» = none }
+plainRecord coordinates corners n = record { piece = markedPiece coordinates (rightedPiece coordinates (plainPiece corners n)); «first_child» = none }

@@ -1,4 +1,4 @@
-// How a plain piece is marked: its edges are ranked, and the first-ranked of the piece and of each face are marked.
+// How a plain piece is made right-handed and marked: its edges are ranked, and the first-ranked of the piece and of each face are marked.
 use grid::Place;
 use grid_lengths::Ranked;
 use piece::Piece;
@@ -7,7 +7,9 @@ use stored::Vertex;
 ghost use mathlib.Core.Path.{_≡_};
 ghost use lib.ListN.{getD};
 ghost use lib.IntN.{pos};
-ghost use Rattle.build_marks.specs.Marking.{placeFor, plainPlace, plainVertex, plainPiece, markedPiece, plainRecord};
+ghost use Rattle.grid.specs.Places.{pointOf};
+ghost use Rattle.grid_volume.specs.Volume.{signedOf};
+ghost use Rattle.build_marks.specs.Marking.{placeFor, plainPlace, plainVertex, plainPiece, lastExchanged, rightedPiece, markedPiece, plainRecord};
 ghost use Rattle.build_marks.specs.Choosing.{edgeFor, firstOf, markedBy};
 
 const SHIFT: i32 = grid::SHIFT as i32;
@@ -62,7 +64,7 @@ fn corner_at(corners: &[u16], at: usize) -> u32
     }
 }
 
-fn plain_piece(corners: &[u16], n: u32) -> Piece
+pub fn plain_piece(corners: &[u16], n: u32) -> Piece
     ensures { λ r. ⌜ r ≡ plainPiece (now (corners .entry)) n ⌝ }
 {
     let at = 4 * (n as usize);
@@ -79,6 +81,42 @@ fn plain_piece(corners: &[u16], n: u32) -> Piece
         flag: 0,
         generation: 0,
     }
+}
+
+// The signed determinant of a piece with these corners.
+pub fn signed_of(coordinates: &[i16], corners: [u32; 4]) -> i64
+    ensures { λ r. ⌜ r ≡ signedOf (λ k. pointOf (plainPlace (now (coordinates .entry)) (getD corners k 0))) ⌝ }
+{
+    let a = plain_place(coordinates, corners[0]);
+    let b = plain_place(coordinates, corners[1]);
+    let c = plain_place(coordinates, corners[2]);
+    let d = plain_place(coordinates, corners[3]);
+    grid_volume::signed(a, b, c, d)
+}
+
+fn last_exchanged(p: Piece) -> Piece
+    ensures { λ r. ⌜ r ≡ lastExchanged p ⌝ }
+{
+    let corners = p.corners;
+    let four = [corners[0], corners[1], corners[3], corners[2]];
+    let marks = p.marks;
+    Piece {
+        corners: four,
+        edge: p.edge,
+        marks: marks,
+        flag: p.flag,
+        generation: p.generation,
+    }
+}
+
+fn righted_piece(coordinates: &[i16], p: Piece) -> Piece
+    ensures { λ r. ⌜ r ≡ rightedPiece (now (coordinates .entry)) p ⌝ }
+{
+    let corners = p.corners;
+    if grid_volume::is_negative(signed_of(coordinates, corners)) {
+        return last_exchanged(p);
+    }
+    p
 }
 
 // An edge: its code, and how it is ranked.
@@ -177,7 +215,10 @@ fn marked_piece(coordinates: &[i16], p: Piece) -> Piece
 pub fn plain_record(coordinates: &[i16], corners: &[u16], n: u32) -> Record
     ensures { λ r. ⌜ r ≡ plainRecord (now (coordinates .entry)) (now (corners .entry)) n ⌝ }
 {
-    let piece = marked_piece(coordinates, plain_piece(corners, n));
+    let piece = marked_piece(
+        coordinates,
+        righted_piece(coordinates, plain_piece(corners, n)),
+    );
     Record {
         piece: piece,
         first_child: stored::NONE,

@@ -1,6 +1,7 @@
 -- Document 01, "Build and refine": whatever build accepts, check accepts, and why its marks can't be wrong.
 pub mod First
 pub mod Edges
+pub mod Righted
 pub mod Marks
 pub mod Shared
 pub mod Written

@@ -1,6 +1,7 @@
--- Two pieces mark a face that they share alike: the ranking looks only at vertex numbers and places.
+-- Two pieces mark a face that they share alike: the ranking looks only at vertex numbers and places. So a piece whose corners are exchanged has the marks
+-- that it has as it is given.
 use mathlib.Core.Path.{_≡_, refl, sym, ap, _∙_}
-use mathlib.Core.Bool.{true, false}
+use mathlib.Core.Bool.{Bool, true, false}
 use mathlib.Core.Logic.{_≢_, _⊎_, inl, inr, ⊎-elim, Iff·rfl}
 use mathlib.Core.List.{List}
 use Prim.Native.Nat.{ℕ, _<_}
@@ -17,10 +18,11 @@ use Rattle.grid_lengths.specs.Lengths.{squaredLength}
 use Rattle.check_refusals.specs.Refusals.{faceHas, faceWithin, sameFace, sameEnds, sameMark, twoMarksOn, twoMarks}
 use Rattle.check_meaning.specs.Tests.{Passes, equal, below, not-passes, fails-unless, not-fails, and-passes, and-fails, or-passes, or-fails, all-pass, any-passes}
 use Rattle.check_meaning.specs.Accepted.{OnRecordFace, SameRecordFace, markedEnds}
-use Rattle.check_meaning.specs.Bases.{slots-apart}
-use Rattle.build_marks.specs.Marking.{plainPlace, rankOf, markedPiece}
+use Rattle.check_meaning.specs.Bases.{slots-joined, slots-apart}
+use Rattle.build_marks.specs.Marking.{plainPlace, rightedPiece, rankOf, markedPiece}
 use Rattle.build_meaning.specs.Edges.{Different, ends-same}
-use Rattle.build_meaning.specs.Marks.{FirstRanked, first-unique, mark-is-first}
+use Rattle.build_meaning.specs.Marks.{FirstRanked, first-unique, edge-is-first, mark-is-first}
+use Rattle.build_meaning.specs.Righted.{slotGiven, slot-small, righted-corner, given-corner, righted-different, same-face-given}
 
 -- An edge of face i has neither end in slot i.
 edge-on : (e i : ℕ) → Passes (onFace e i) ((e < 6) × ((lowSlot e ≢ i) × (highSlot e ≢ i)))
@@ -81,22 +83,31 @@ rank-by-ends coordinates p q e f same =
     }) same
 
 module _ (coordinates : List ℤ) (p q : Piece) (dp : Different p) (dq : Different q) where
+  -- Where some edges of p and some of q have the same ends, so have the first-ranked of each.
+  same-first : (P Q : ℕ → Bool)
+      (there : (e : ℕ) → e < 6 → P e ≡ true → (f : ℕ) × (f < 6) × ((Q f ≡ true) × (endsOf p e ≡ endsOf q f)))
+      (back : (f : ℕ) → f < 6 → Q f ≡ true → (e : ℕ) × (e < 6) × ((P e ≡ true) × (endsOf q f ≡ endsOf p e))) →
+      (m n : ℕ) → FirstRanked coordinates p P m → FirstRanked coordinates q Q n → endsOf p m ≡ endsOf q n
+  same-first P Q there back m n r r′ =
+      let (f, lf, s) = there m (r .there) (r .is-among) in
+      let first : FirstRanked coordinates q Q f = record {
+        there = lf;
+        is-among = s .0;
+        first = λ h lh on.
+            let (g, lg, t) = back h lh on in
+            rw (rank-by-ends coordinates q p h g (t .1), ← rank-by-ends coordinates p q m f (s .1)) (r .first g lg (t .0));
+      } in
+      s .1 ∙ ap (endsOf q) (first-unique coordinates q dq Q f n first r′)
+
   -- The first-ranked edge of a face is the first-ranked of the same face of another piece.
   carried-first : (i j : ℕ) → i < 4 → j < 4 → Carries p i q j → Carries q j p i → markedEnds (markedPiece coordinates p) i ≡ markedEnds (markedPiece coordinates q) j
   unfolding endsOf lowerEnd higherEnd markedPiece
   carried-first i j li lj there back =
-      let m = mark (shapeOf (markedPiece coordinates p)) i in
-      let n = mark (shapeOf (markedPiece coordinates q)) j in
-      let r = mark-is-first coordinates p i li in
-      let (f, lf, s) = carried p q i j dp lj there m (r .is-among) in
-      let first : FirstRanked coordinates q (λ e. onFace e j) f = record {
-        there = lf;
-        is-among = s .0;
-        first = λ h lh on.
-            let (g, lg, t) = carried q p j i dq li back h on in
-            rw (rank-by-ends coordinates q p h g (t .1), ← rank-by-ends coordinates p q m f (s .1)) (r .first g lg (t .0));
-      } in
-      s .1 ∙ ap (endsOf q) (first-unique coordinates q dq (λ e. onFace e j) f n first (mark-is-first coordinates q j lj))
+      same-first (λ e. onFace e i) (λ e. onFace e j)
+      (λ e l on. carried p q i j dp lj there e on)
+      (λ e l on. carried q p j i dq li back e on)
+      (mark (shapeOf (markedPiece coordinates p)) i) (mark (shapeOf (markedPiece coordinates q)) j)
+      (mark-is-first coordinates p i li) (mark-is-first coordinates q j lj)
 
   -- Two pieces with a common face mark it alike.
   pub shared-face-one-mark : (i j : ℕ) → i < 4 → j < 4 → SameRecordFace p i q j → markedEnds (markedPiece coordinates p) i ≡ markedEnds (markedPiece coordinates q) j
@@ -123,3 +134,46 @@ module _ (coordinates : List ℤ) (p q : Piece) (dp : Different p) (dq : Differe
       let p′ = markedPiece coordinates p in
       let q′ = markedPiece coordinates q in
       any-fails (λ i. anyBelow 4 (twoMarksOn p′ i q′)) 4 (λ i li. any-fails (twoMarksOn p′ i q′) 4 (λ j lj. one-mark-on i j li lj))
+
+-- ---- a piece as it is given, and made right-handed
+
+-- Every edge of a piece has the ends of one of another piece that has the same corners, whatever their slots.
+edge-there : (p q : Piece) (slot : ℕ → ℕ) → Different p → ((k : ℕ) → k < 4 → slot k < 4) → ((k : ℕ) → k < 4 → cornerAt p k ≡ cornerAt q (slot k)) →
+    (e : ℕ) → e < 6 → (f : ℕ) × (f < 6) × (endsOf p e ≡ endsOf q f)
+edge-there p q slot d small same e l =
+    let a = lowSlot e in
+    let b = highSlot e in
+    let la = slots-small e .0 in
+    let lb = slots-small e .1 in
+    let apart : slot a ≢ slot b = λ h. slots-apart e l (d a b la lb (same a la ∙ ap (cornerAt q) h ∙ sym (same b lb))) in
+    ⊎-elim
+    (λ h. absurd (apart h))
+    (λ r.
+    let (f, lf, ends) = r in (
+      f,
+      lf,
+      ends-same p q e f (⊎-elim
+          (λ h. inl (same a la ∙ ap (cornerAt q) (sym (h .0)), same b lb ∙ ap (cornerAt q) (sym (h .1))))
+          (λ h. inr (same a la ∙ ap (cornerAt q) (sym (h .1)), same b lb ∙ ap (cornerAt q) (sym (h .0))))
+          ends),
+    ))
+    (slots-joined (slot a) (small a la) (slot b) (small b lb))
+
+module _ (coordinates : List ℤ) (p : Piece) (d : Different p) where
+  -- The refinement edge, as a pair of vertices, is that of the piece as it is given.
+  pub edge-as-given : endsOf (rightedPiece coordinates p) (markedPiece coordinates (rightedPiece coordinates p) .edge) ≡ endsOf p (markedPiece coordinates p .edge)
+  edge-as-given =
+      let q = rightedPiece coordinates p in
+      let slot = slotGiven coordinates p in
+      let all : ℕ → Bool = λ e. true in
+      same-first coordinates q p (righted-different coordinates p d) d all all
+      (λ e l on. let (f, lf, s) = edge-there q p slot (righted-different coordinates p d) (slot-small coordinates p) (righted-corner coordinates p) e l in (f, lf, (refl, s)))
+      (λ e l on. let (f, lf, s) = edge-there p q slot d (slot-small coordinates p) (given-corner coordinates p) e l in (f, lf, (refl, s)))
+      (markedPiece coordinates q .edge) (markedPiece coordinates p .edge)
+      (edge-is-first coordinates q) (edge-is-first coordinates p)
+
+  -- So is the mark of each face.
+  pub mark-as-given : (i : ℕ) → i < 4 → markedEnds (markedPiece coordinates (rightedPiece coordinates p)) (slotGiven coordinates p i) ≡ markedEnds (markedPiece coordinates p) i
+  mark-as-given i l =
+      shared-face-one-mark coordinates (rightedPiece coordinates p) p (righted-different coordinates p d) d
+      (slotGiven coordinates p i) i (slot-small coordinates p i l) l (same-face-given coordinates p i l)

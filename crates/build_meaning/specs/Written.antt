@@ -1,13 +1,15 @@
 -- What build writes keeps every number of the plain mesh: each fits its stored width, and check reads it again.
 use mathlib.Core.Path.{_≡_, refl, sym, ap, _∙_, subst}
 use mathlib.Core.Bool.{Bool, true}
-use mathlib.Core.Logic.{inl, inr}
+use mathlib.Core.Logic.{inl, inr, ⊎-elim}
 use mathlib.Core.List.{List}
 use Prim.Native.Nat.{ℕ, zero, suc, _+_, _*_, _/_, _≤_, _<_}
 use native.Mathlib.Omega.{arith}
-use lib.ListN.{length, getD}
+use lib.ListN.{length, getD, List·getD-eq-default}
 use lib.IntN.{ℤ, pos}
-use Rattle.laws.specs.Below.{first-at-most, list-length, list-at}
+use lib.Dec.{ltb}
+use borrow.Author.Tests.{ltb-true, ltb-false}
+use Rattle.laws.specs.Below.{either, first-at-most, list-length, list-at}
 use Rattle.laws.specs.Lists.{bytes-none, bytes-cons}
 use Rattle.piece_edges.specs.Edges.{onFace}
 use Rattle.piece.specs.declared.Piece.{Piece}
@@ -19,8 +21,9 @@ use Rattle.stored.specs.Fitting.{U16, U32, VertexFits, RecordFits, Counted, Mes
 use Rattle.stored.specs.Entries.{vertex-again, record-again, corner-read}
 use Rattle.stored.specs.Meshes.{mesh-header, mesh-vertex-bytes, mesh-record-bytes, mesh-length}
 use Rattle.mesh_tables.specs.Tables.{Tables, tablesOf}
-use Rattle.build_marks.specs.Marking.{placeFor, plainPlace, plainVertex, plainPiece, firstRanked, markedPiece, plainRecord}
+use Rattle.build_marks.specs.Marking.{placeFor, plainPlace, plainVertex, plainPiece, rightedPiece, firstRanked, markedPiece, plainRecord}
 use Rattle.build_service.specs.Build.{plainHeader, plainMesh, plainBytes}
+use Rattle.build_meaning.specs.Righted.{slotGiven, slot-small, righted-corner, righted-four}
 
 -- The job is a u32, every coordinate's place is a u16, as that of an i16 is, and the corners are u16.
 pub record Given (job : ℕ) (coordinates : List ℤ) (corners : List ℕ) : Type 0 where
@@ -42,6 +45,26 @@ ranked-byte : (coordinates : List ℤ) (p : Piece) (among : ℕ → Bool) → fi
 unfolding firstRanked
 ranked-byte coordinates p among = let l : firstRanked coordinates p among ≤ 6 = first-at-most _ 6 in omega arith
 
+-- The corners that are stored are those that are given, in other slots; past the fourth a list has 0.
+plain-four : (coordinates : List ℤ) (corners : List ℕ) (n : ℕ) → length (plainRecord coordinates corners n .piece .corners) ≡ 4
+unfolding plainRecord markedPiece plainPiece
+plain-four coordinates corners n = righted-four coordinates (plainPiece corners n) refl
+
+-- The corner in slot k.
+pub record-corner : (coordinates : List ℤ) (corners : List ℕ) (n k : ℕ) → k < 4 →
+    getD (plainRecord coordinates corners n .piece .corners) k 0 ≡ cornerAt (plainPiece corners n) (slotGiven coordinates (plainPiece corners n) k)
+unfolding plainRecord markedPiece
+record-corner coordinates corners n k s = righted-corner coordinates (plainPiece corners n) k s
+
+pub stored-corner : (coordinates : List ℤ) (corners : List ℕ) (n : ℕ) (P : ℕ → Type 0) → P 0 → ((k : ℕ) → k < 4 → P (cornerAt (plainPiece corners n) k)) →
+    (k : ℕ) → P (getD (plainRecord coordinates corners n .piece .corners) k 0)
+stored-corner coordinates corners n P none each k =
+    let p = plainPiece corners n in
+    ⊎-elim
+    (λ t. let s = ltb-true k 4 t in subst P (sym (record-corner coordinates corners n k s)) (each (slotGiven coordinates p k) (slot-small coordinates p k s)))
+    (λ f. subst P (sym (List·getD-eq-default (plainRecord coordinates corners n .piece .corners) 0 (omega (arith, plain-four coordinates corners n, ltb-false k 4 f)))) none)
+    (either (ltb k 4))
+
 module _ (job : ℕ) (coordinates : List ℤ) (corners : List ℕ) (g : Given job coordinates corners) (c : CountsFit coordinates corners) where
   vertex-fits : (v : ℕ) → v < length coordinates / 3 → VertexFits (plainVertex coordinates v)
   unfolding plainVertex plainPlace
@@ -55,13 +78,17 @@ module _ (job : ℕ) (coordinates : List ℤ) (corners : List ℕ) (g : Given jo
       }
 
   -- A corner is a u16.
+  given-small : (n : ℕ) → n < length corners / 4 → (k : ℕ) → k < 4 → U16 (cornerAt (plainPiece corners n) k)
+  unfolding plainPiece
+  given-small n l zero s = g .each-corner (4 * n) (omega arith)
+  given-small n l (suc zero) s = g .each-corner (4 * n + 1) (omega arith)
+  given-small n l (suc (suc zero)) s = g .each-corner (4 * n + 2) (omega arith)
+  given-small n l (suc (suc (suc zero))) s = g .each-corner (4 * n + 3) (omega arith)
+  given-small n l (suc (suc (suc (suc k)))) s = absurd (omega arith)
+
   pub corner-small : (n : ℕ) → n < length corners / 4 → (k : ℕ) → U16 (getD (plainRecord coordinates corners n .piece .corners) k 0)
-  unfolding plainRecord markedPiece plainPiece
-  corner-small n l zero = g .each-corner (4 * n) (omega arith)
-  corner-small n l (suc zero) = g .each-corner (4 * n + 1) (omega arith)
-  corner-small n l (suc (suc zero)) = g .each-corner (4 * n + 2) (omega arith)
-  corner-small n l (suc (suc (suc zero))) = g .each-corner (4 * n + 3) (omega arith)
-  corner-small n l (suc (suc (suc (suc k)))) = omega arith
+  corner-small n l k =
+      stored-corner coordinates corners n U16 (omega arith) (λ j s. given-small n l j s) k
 
   plain-counted : Counted (plainMesh job coordinates corners)
   unfolding plainMesh plainHeader
@@ -112,12 +139,12 @@ module _ (job : ℕ) (coordinates : List ℤ) (corners : List ℕ) (g : Given jo
 
   module _ (named : (n : ℕ) → n < length corners / 4 → (k : ℕ) → getD (plainRecord coordinates corners n .piece .corners) k 0 < storedNone) where
     record-fits : (n : ℕ) → n < length corners / 4 → RecordFits (plainRecord coordinates corners n)
-    unfolding plainRecord markedPiece plainPiece
+    unfolding plainRecord markedPiece
     record-fits n l =
-        let p = plainPiece corners n in
+        let p = rightedPiece coordinates (plainPiece corners n) in
         let byte : (among : ℕ → Bool) → firstRanked coordinates p among < 256 = ranked-byte coordinates p in
         record {
-          fourCorners = refl;
+          fourCorners = plain-four coordinates corners n;
           corners = λ k. inr (named n l k);
           edge = byte (λ e. true);
           fourMarks = refl;

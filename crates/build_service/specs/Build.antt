@@ -7,13 +7,13 @@ use lib.ListN.{length}
 use lib.IntN.{ℤ}
 use lib.Dec.{eqb, ltb}
 use Rattle.laws.specs.Lists.{outputOf}
-use Rattle.laws.specs.Below.{listBelow}
+use Rattle.laws.specs.Below.{anyBelow, listBelow}
 use Rattle.laws.specs.Order.{Row, row, firstBroken}
 use Rattle.stored.specs.declared.Header.{Header}
 use Rattle.stored.specs.Layout.{limits, Mesh, meshBytes}
 use Rattle.mesh_tables.specs.Tables.{tablesOf}
-use Rattle.check_refusals.specs.Refusals.{wrongCounts, badVertices, badBaseRecords, badBaseFaces, unusedVertices}
-use Rattle.build_marks.specs.Marking.{plainVertex, plainRecord}
+use Rattle.check_refusals.specs.Refusals.{wrongCounts, badVertices, badPiece, badBaseFaces, unusedVertices}
+use Rattle.build_marks.specs.Marking.{plainVertex, plainPiece, plainRecord}
 
 -- 21: "coordinates not three a vertex, or corners not four a piece"
 unfoldable pub notWhole : List ℤ → List ℕ → Bool
@@ -43,14 +43,19 @@ plainMesh job coordinates corners =
 unfoldable pub plainBytes : ℕ → List ℤ → List ℕ → List ℕ
 plainBytes job coordinates corners = meshBytes (plainMesh job coordinates corners)
 
--- "Build tries 21, then 3, 4, 5, 7, 8, 20": 4, 5, 7 and 8 are check's own, of what will be written.
+-- 5 judges the pieces as they are given, by check's own rule; only then left-handed ones are exchanged, and all are marked.
+unfoldable pub badGivenPieces : List ℤ → List ℕ → Bool
+badGivenPieces coordinates corners =
+    anyBelow (length corners / 4) (λ n. badPiece (length coordinates / 3) (plainVertex coordinates) (plainPiece corners n))
+
+-- "Build tries 21, then 3, 4, 5, 7, 8, 20": 4, 7 and 8 are check's own, of what will be written.
 unfoldable pub buildRows : ℕ → List ℤ → List ℕ → ℕ → List Row
 buildRows job coordinates corners room =
     let m = tablesOf (plainBytes job coordinates corners) in
     row 21 (notWhole coordinates corners)
     ∷ row 3 (wrongCounts limits (plainHeader job coordinates corners))
     ∷ row 4 (badVertices m)
-    ∷ row 5 (badBaseRecords m)
+    ∷ row 5 (badGivenPieces coordinates corners)
     ∷ row 7 (badBaseFaces m)
     ∷ row 8 (unusedVertices m)
     ∷ row 20 (ltb room (length (plainBytes job coordinates corners)))

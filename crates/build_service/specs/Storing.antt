@@ -11,7 +11,7 @@ use lib.Seq.{sets, sets-eq, length-sets, take-at}
 use lib.IntN.{ℤ}
 use lib.Dec.{eqb, ltb}
 use borrow.Author.Tests.{ne-eqb, lt-ltb, le-ltb}
-use Rattle.laws.specs.Below.{listBelow, list-none, list-suc, list-length}
+use Rattle.laws.specs.Below.{anyBelow, listBelow, list-none, list-suc, list-length}
 use Rattle.laws.specs.Order.{Row, row, firstBroken, one-after-other}
 use Rattle.laws.specs.Lists.{joined, joined-append, joined-length, sets-append, clear-with, outputOf}
 use Rattle.stored.specs.declared.Layout.{Layout}
@@ -24,10 +24,10 @@ use Rattle.stored.specs.Fitting.{U32, HeaderFits}
 use Rattle.stored.specs.Entries.{vertex-wide, record-wide}
 use Rattle.check_refusals.specs.Bounded.{Bounded}
 use Rattle.mesh_tables.specs.Tables.{Tables, tablesOf}
-use Rattle.check_refusals.specs.Refusals.{wrongCounts, badVertices, badBaseRecords, badBaseFaces, unusedVertices}
+use Rattle.check_refusals.specs.Refusals.{wrongCounts, badVertices, badPiece, badBaseFaces, unusedVertices}
 use Rattle.check_refusals.specs.Bounded.{Bounded, bounded}
-use Rattle.build_marks.specs.Marking.{plainVertex, plainRecord}
-use Rattle.build_service.specs.Build.{notWhole, plainHeader, plainMesh, plainBytes, buildRows, buildNumber, buildBytes}
+use Rattle.build_marks.specs.Marking.{plainVertex, plainPiece, plainRecord}
+use Rattle.build_service.specs.Build.{notWhole, plainHeader, plainMesh, plainBytes, badGivenPieces, buildRows, buildNumber, buildBytes}
 
 -- ---- the parts
 
@@ -185,6 +185,13 @@ pub record Ready (h : Header) (vertices records out : List ℕ) : Type 0 where
   pub records-there : recordWidth * h .records ≤ length records
   pub clear : out ≡ replicate (length out) 0
 
+-- So many pieces, of so many vertices, as the header says: those that are given.
+pub given-pieces : (job : ℕ) (coordinates : List ℤ) (corners : List ℕ) (h : Header) → h ≡ plainHeader job coordinates corners →
+    anyBelow (h .records) (λ n. badPiece (h .vertices) (plainVertex coordinates) (plainPiece corners n)) ≡ badGivenPieces coordinates corners
+unfolding badGivenPieces plainHeader
+given-pieces job coordinates corners h is =
+    ap (λ (g : Header). anyBelow (g .records) (λ n. badPiece (g .vertices) (plainVertex coordinates) (plainPiece corners n))) is
+
 -- The counts are wrong, or not, whatever the job.
 pub counts-alone : (job : ℕ) (coordinates : List ℤ) (corners : List ℕ) → wrongCounts limits (plainHeader 0 coordinates corners) ≡ wrongCounts limits (plainHeader job coordinates corners)
 unfolding wrongCounts plainHeader
@@ -197,69 +204,69 @@ or-none false = refl
 
 -- ---- what is judged of a stored mesh
 
--- 4, 5, 7 and 8, of the tables.
-abbrev judgedRows : Tables → List Row
-judgedRows m = row 4 (badVertices m) ∷ row 5 (badBaseRecords m) ∷ row 7 (badBaseFaces m) ∷ row 8 (unusedVertices m) ∷ []
+-- 4, 7 and 8, of the tables, and between them whether 5 is broken by the pieces as they are given.
+abbrev judgedRows : Bool → Tables → List Row
+judgedRows given m = row 4 (badVertices m) ∷ row 5 given ∷ row 7 (badBaseFaces m) ∷ row 8 (unusedVertices m) ∷ []
 
-unfoldable pub judgedNumber : Tables → ℕ
-judgedNumber m = firstBroken (judgedRows m)
+unfoldable pub judgedNumber : Bool → Tables → ℕ
+judgedNumber given m = firstBroken (judgedRows given m)
 
-module _ (m : Tables) where
-  pub judged-4 : badVertices m ≡ true → 4 ≡ judgedNumber m
+module _ (given : Bool) (m : Tables) where
+  pub judged-4 : badVertices m ≡ true → 4 ≡ judgedNumber given m
   unfolding judgedNumber firstBroken
   judged-4 a = rw a
 
-  pub judged-5 : badVertices m ≡ false → badBaseRecords m ≡ true → 5 ≡ judgedNumber m
+  pub judged-5 : badVertices m ≡ false → given ≡ true → 5 ≡ judgedNumber given m
   unfolding judgedNumber firstBroken
   judged-5 a b = rw (a, b)
 
-  pub judged-7 : badVertices m ≡ false → badBaseRecords m ≡ false → badBaseFaces m ≡ true → 7 ≡ judgedNumber m
+  pub judged-7 : badVertices m ≡ false → given ≡ false → badBaseFaces m ≡ true → 7 ≡ judgedNumber given m
   unfolding judgedNumber firstBroken
   judged-7 a b c = rw (a, b, c)
 
-  pub judged-8 : badVertices m ≡ false → badBaseRecords m ≡ false → badBaseFaces m ≡ false → unusedVertices m ≡ true → 8 ≡ judgedNumber m
+  pub judged-8 : badVertices m ≡ false → given ≡ false → badBaseFaces m ≡ false → unusedVertices m ≡ true → 8 ≡ judgedNumber given m
   unfolding judgedNumber firstBroken
   judged-8 a b c d = rw (a, b, c, d)
 
-  pub judged-0 : badVertices m ≡ false → badBaseRecords m ≡ false → badBaseFaces m ≡ false → unusedVertices m ≡ false → 0 ≡ judgedNumber m
+  pub judged-0 : badVertices m ≡ false → given ≡ false → badBaseFaces m ≡ false → unusedVertices m ≡ false → 0 ≡ judgedNumber given m
   unfolding judgedNumber firstBroken
   judged-0 a b c d = rw (a, b, c, d)
 
 -- And 20, of the mesh's bytes s and the room for them.
-unfoldable pub laterNumber : List ℕ → ℕ → ℕ
-laterNumber s room = firstBroken (judgedRows (tablesOf s) ++ (row 20 (ltb room (length s)) ∷ []))
+unfoldable pub laterNumber : Bool → List ℕ → ℕ → ℕ
+laterNumber given s room = firstBroken (judgedRows given (tablesOf s) ++ (row 20 (ltb room (length s)) ∷ []))
 
-unfoldable pub laterBytes : List ℕ → ℕ → List ℕ
-laterBytes s room = outputOf (laterNumber s room) room s
+unfoldable pub laterBytes : Bool → List ℕ → ℕ → List ℕ
+laterBytes given s room = outputOf (laterNumber given s room) room s
 
-module _ (s : List ℕ) (room : ℕ) where
-  later-is : laterNumber s room ≡ cond (eqb (judgedNumber (tablesOf s)) 0) (cond (ltb room (length s)) 20 0) (judgedNumber (tablesOf s))
+module _ (given : Bool) (s : List ℕ) (room : ℕ) where
+  later-is : laterNumber given s room ≡ cond (eqb (judgedNumber given (tablesOf s)) 0) (cond (ltb room (length s)) 20 0) (judgedNumber given (tablesOf s))
   unfolding laterNumber judgedNumber firstBroken
-  later-is = one-after-other (judgedRows (tablesOf s)) (row 20 (ltb room (length s)) ∷ []) refl
+  later-is = one-after-other (judgedRows given (tablesOf s)) (row 20 (ltb room (length s)) ∷ []) refl
 
   -- refused by a rule on the tables
-  module _ (found : ℕ) (judged : found ≡ judgedNumber (tablesOf s)) (ne : found ≢ 0) where
-    pub refused-number : found ≡ laterNumber s room
+  module _ (found : ℕ) (judged : found ≡ judgedNumber given (tablesOf s)) (ne : found ≢ 0) where
+    pub refused-number : found ≡ laterNumber given s room
     refused-number = sym (later-is ∙ rw (← judged, ne-eqb found 0 ne))
 
-    pub refused-bytes : replicate room 0 ≡ laterBytes s room
+    pub refused-bytes : replicate room 0 ≡ laterBytes given s room
     unfolding laterBytes
     refused-bytes = rw (← refused-number, ne-eqb found 0 ne)
 
-  module _ (judged : judgedNumber (tablesOf s) ≡ 0) where
+  module _ (judged : judgedNumber given (tablesOf s) ≡ 0) where
     -- refused for want of room
-    pub full-number : room < length s → laterNumber s room ≡ 20
+    pub full-number : room < length s → laterNumber given s room ≡ 20
     full-number l = later-is ∙ rw (judged, lt-ltb room (length s) l)
 
-    pub full-bytes : room < length s → replicate room 0 ≡ laterBytes s room
+    pub full-bytes : room < length s → replicate room 0 ≡ laterBytes given s room
     unfolding laterBytes
     full-bytes l = rw (full-number l)
 
     -- stored
-    pub stored-number : length s ≤ room → laterNumber s room ≡ 0
+    pub stored-number : length s ≤ room → laterNumber given s room ≡ 0
     stored-number l = later-is ∙ rw (judged, le-ltb room (length s) l)
 
-    pub stored-bytes : length s ≤ room → sets (replicate room 0) 0 s ≡ laterBytes s room
+    pub stored-bytes : length s ≤ room → sets (replicate room 0) 0 s ≡ laterBytes given s room
     unfolding laterBytes
     stored-bytes l = rw (stored-number l) (clear-with room s l)
 
@@ -286,10 +293,10 @@ module _ (job : ℕ) (coordinates : List ℤ) (corners : List ℕ) (room : ℕ) 
       build-3-bytes = rw build-3
 
     module _ (right : wrongCounts limits (plainHeader job coordinates corners) ≡ false) where
-      pub build-later : buildNumber job coordinates corners room ≡ laterNumber (plainBytes job coordinates corners) room
+      pub build-later : buildNumber job coordinates corners room ≡ laterNumber (badGivenPieces coordinates corners) (plainBytes job coordinates corners) room
       unfolding buildNumber buildRows firstBroken laterNumber
       build-later = rw (whole, right)
 
-      pub build-later-bytes : laterBytes (plainBytes job coordinates corners) room ≡ buildBytes job coordinates corners room
+      pub build-later-bytes : laterBytes (badGivenPieces coordinates corners) (plainBytes job coordinates corners) room ≡ buildBytes job coordinates corners room
       unfolding buildBytes laterBytes
       build-later-bytes = rw build-later

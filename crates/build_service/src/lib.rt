@@ -5,13 +5,15 @@ use stored::Limits;
 ghost use mathlib.Core.Path.{_≡_};
 ghost use mathlib.Core.Bool.{false};
 ghost use lib.ListN.{length, replicate};
+ghost use Rattle.laws.specs.Below.{anyBelow};
 ghost use Rattle.laws.specs.Links.{Empty};
 ghost use Rattle.stored.specs.Layout.{limits, assembled};
 ghost use Rattle.mesh_tables.specs.Tables.{tables};
-ghost use Rattle.check_refusals.specs.Refusals.{wrongCounts};
+ghost use Rattle.check_refusals.specs.Refusals.{wrongCounts, badPiece};
 ghost use Rattle.check_refusals.specs.Bounded.{Bounded};
 ghost use Rattle.check_refusals.specs.Lent.{LentToBase};
-ghost use Rattle.build_service.specs.Build.{notWhole, plainHeader, plainBytes, BuildOutcomeIs};
+ghost use Rattle.build_marks.specs.Marking.{plainVertex, plainPiece};
+ghost use Rattle.build_service.specs.Build.{notWhole, plainHeader, plainBytes, badGivenPieces, BuildOutcomeIs};
 ghost use Rattle.build_service.specs.Storing.{verticesPut, recordsPut, Ready, judgedNumber, laterNumber, laterBytes};
 
 // Refusal 21.
@@ -102,8 +104,34 @@ fn put_records(
     }
 }
 
-// Check's own rules 4, 5, 7 and 8, and 0 where none is broken.
+fn bad_given(coordinates: &[i16], corners: &[u16], count: u32, n: u32) -> bool
+    ensures { λ r. ⌜ r ≡ badPiece count (plainVertex (now (coordinates .entry))) (plainPiece (now (corners .entry)) n) ⌝ }
+{
+    let p = build_marks::plain_piece(corners, n);
+    let four = p.corners;
+    if check_pieces::bad_corners(count, four) {
+        return true;
+    }
+    grid_volume::is_flat(build_marks::signed_of(coordinates, four))
+}
+
+// Refusal 5, of so many pieces as they are given.
+fn bad_given_pieces(coordinates: &[i16], corners: &[u16], vertices: u32, records: u32) -> bool
+    ensures { λ r. ⌜ r ≡ anyBelow records (λ n. badPiece vertices (plainVertex (now (coordinates .entry))) (plainPiece (now (corners .entry)) n)) ⌝ }
+{
+    let mut n: u32 = 0;
+    while n < records {
+        if bad_given(coordinates, corners, vertices, n) {
+            return true;
+        }
+        n += 1;
+    }
+    false
+}
+
+// Check's own rules 4, 7 and 8, in its place whether 5 was found broken, and 0 where none is.
 fn judged_with<'a>(
+    given: bool,
     h: Header,
     l: Layout,
     base: &'a [u8],
@@ -116,12 +144,12 @@ fn judged_with<'a>(
     requires { ⌜ LentToBase h (length (now heads)) (length (now «face_heads»)) (length (now links)) (length (now uses)) ⌝ }
     requires { ⌜ Empty (now heads) ⌝ }
     requires { ⌜ Empty (now «face_heads») ⌝ }
-    ensures { λ r. ⌜ r ≡ judgedNumber (tables h l (now (base .entry)) (now (grown .entry))) ⌝ }
+    ensures { λ r. ⌜ r ≡ judgedNumber given (tables h l (now (base .entry)) (now (grown .entry))) ⌝ }
 {
     if check_places::bad_vertices(h, l, base, grown, heads, links) {
         return 4;
     }
-    if check_pieces::bad_base_records(h, l, base, grown) {
+    if given {
         return 5;
     }
     if check_faces::bad_base_faces(h, l, base, grown, face_heads, links) {
@@ -134,9 +162,9 @@ fn judged_with<'a>(
 }
 
 // The working memory of these rules is made here, and lent to them.
-fn judged<'a>(h: Header, l: Layout, base: &'a [u8], grown: &'a [u8]) -> u32
+fn judged<'a>(given: bool, h: Header, l: Layout, base: &'a [u8], grown: &'a [u8]) -> u32
     requires { ⌜ Bounded h ⌝ }
-    ensures { λ r. ⌜ r ≡ judgedNumber (tables h l (now (base .entry)) (now (grown .entry))) ⌝ }
+    ensures { λ r. ⌜ r ≡ judgedNumber given (tables h l (now (base .entry)) (now (grown .entry))) ⌝ }
 {
     let mut heads = [0u16; chains::KEYS];
     let mut face_heads = [0u16; chains::FACE_KEYS];
@@ -144,6 +172,7 @@ fn judged<'a>(h: Header, l: Layout, base: &'a [u8], grown: &'a [u8]) -> u32
     // "one count for each of the 1,024 possible vertices": [0; 1024]
     let mut uses = [0u16; stored::VERTICES];
     judged_with(
+        given,
         h,
         l,
         base,
@@ -156,13 +185,13 @@ fn judged<'a>(h: Header, l: Layout, base: &'a [u8], grown: &'a [u8]) -> u32
 }
 
 // Judges the tables, and stores the mesh where it is accepted and there is room.
-fn finish<'a>(h: Header, vertices: &'a [u8], records: &'a [u8], out: &mut [u8]) -> u32
+fn finish<'a>(given: bool, h: Header, vertices: &'a [u8], records: &'a [u8], out: &mut [u8]) -> u32
     requires { ⌜ Ready h (now vertices) (now records) (now out) ⌝ }
-    ensures { λ r. ⌜ r ≡ laterNumber (assembled h (now (vertices .entry)) (now (records .entry))) (length (now (out .entry))) ⌝ }
-    ensures { λ _. ⌜ now (out .exit) ≡ laterBytes (assembled h (now (vertices .entry)) (now (records .entry))) (length (now (out .entry))) ⌝ }
+    ensures { λ r. ⌜ r ≡ laterNumber given (assembled h (now (vertices .entry)) (now (records .entry))) (length (now (out .entry))) ⌝ }
+    ensures { λ _. ⌜ now (out .exit) ≡ laterBytes given (assembled h (now (vertices .entry)) (now (records .entry))) (length (now (out .entry))) ⌝ }
 {
     let l = stored::working_layout(h.vertices, h.records);
-    let found = judged(h, l, vertices, records);
+    let found = judged(given, h, l, vertices, records);
     if found != 0 {
         return found;
     }
@@ -173,14 +202,15 @@ fn finish<'a>(h: Header, vertices: &'a [u8], records: &'a [u8], out: &mut [u8]) 
     0
 }
 
-// The tables are made aside, since there may be no room for them.
+// 5 judges the pieces as they are given. The tables are made aside, since there may be no room for them.
 fn store(job: u32, coordinates: &[i16], corners: &[u16], out: &mut [u8]) -> u32
     requires { ⌜ wrongCounts limits (plainHeader job (now coordinates) (now corners)) ≡ false ⌝ }
     requires { ⌜ now out ≡ replicate (length (now out)) 0 ⌝ }
-    ensures { λ r. ⌜ r ≡ laterNumber (plainBytes job (now (coordinates .entry)) (now (corners .entry))) (length (now (out .entry))) ⌝ }
-    ensures { λ _. ⌜ now (out .exit) ≡ laterBytes (plainBytes job (now (coordinates .entry)) (now (corners .entry))) (length (now (out .entry))) ⌝ }
+    ensures { λ r. ⌜ r ≡ laterNumber (badGivenPieces (now (coordinates .entry)) (now (corners .entry))) (plainBytes job (now (coordinates .entry)) (now (corners .entry))) (length (now (out .entry))) ⌝ }
+    ensures { λ _. ⌜ now (out .exit) ≡ laterBytes (badGivenPieces (now (coordinates .entry)) (now (corners .entry))) (plainBytes job (now (coordinates .entry)) (now (corners .entry))) (length (now (out .entry))) ⌝ }
 {
     let h = plain_header(job, coordinates, corners);
+    let given = bad_given_pieces(coordinates, corners, h.vertices, h.records);
     let mut vertices = [0u8; stored::VERTEX_BYTES];
     let mut records = [0u8; stored::RECORD_BYTES];
     put_vertices(
@@ -198,7 +228,7 @@ fn store(job: u32, coordinates: &[i16], corners: &[u16], out: &mut [u8]) -> u32
         coordinates,
         corners,
     );
-    finish(h, &vertices, &records, out)
+    finish(given, h, &vertices, &records, out)
 }
 
 pub fn build(job: u32, coordinates: &[i16], corners: &[u16], out: &mut [u8]) -> u32

@@ -17,7 +17,7 @@ ghost use Rattle.mesh_tables.specs.Tables.{tables};
 ghost use Rattle.check_refusals.specs.Refusals.{badFaces, badBaseFaces};
 ghost use Rattle.check_shared.specs.Faces.{faceOf};
 ghost use Rattle.check_faces.specs.Faces.{isFace, isBefore, badFace};
-ghost use Rattle.check_faces.specs.Linked.{faceKey, keysOf, KeysWithin, beforeAlong, beforeFrom, badAlong, badLinked, pushedFaces, Linked};
+ghost use Rattle.check_faces.specs.Linked.{faceKey, keysOf, KeysWithin, beforeAlong, beforeFrom, badAlong, badLinked, pushedFaces};
 
 // How many faces the base records may have.
 pub const FACES: usize = 4 * stored::RECORDS;
@@ -162,7 +162,7 @@ fn bad_linked<'a>(
     false
 }
 
-// The number f is put before the others with key k; there is room for it.
+// The number f is put before the others with key k: `chains::push` where it is known that there is room, so that nothing is tested for each face.
 fn put(heads: &mut [u16], nexts: &mut [u16], k: usize, f: usize)
     requires { ⌜ k < length (now heads) ⌝ }
     requires { ⌜ f < length (now nexts) ⌝ }
@@ -231,8 +231,8 @@ fn bad_below<'a>(
     false
 }
 
-// Lists that are too short for the faces are answered at once. The heads are to be lent as they were made: to clear as many once more takes as long as all rules
-// on a small mesh.
+// Lists that are too short for the faces are answered at once. The heads are to be lent as they were made: to clear as many once more takes a quarter of all rules'
+// time on a small mesh.
 pub fn bad_base_faces<'a>(
     h: Header,
     l: Layout,

@@ -2,13 +2,12 @@
 use stored::Header;
 use stored::Layout;
 ghost use mathlib.Core.Path.{_≡_};
-ghost use Prim.Native.Nat.{_*_, _^_, max, _≤_};
+ghost use Prim.Native.Nat.{max, _≤_};
 ghost use lib.IntN.{natAbs};
 ghost use Rattle.laws.specs.Below.{bit};
 ghost use Rattle.stored.specs.Layout.{limits, vertexIn, recordIn};
-ghost use Rattle.grid.specs.Places.{greatestPlace};
 ghost use Rattle.mesh_tables.specs.Tables.{tables, sixfoldAt};
-ghost use Rattle.check_figures.specs.Bounds.{sixfoldWithin};
+ghost use Rattle.check_figures.specs.Bounds.{most, sixfoldWithin};
 ghost use Rattle.check_refusals.specs.Check.{leaves, leafGeneration, deepest, leafSixfold, sixfold};
 
 fn one_if(b: bool) -> u64
@@ -60,7 +59,7 @@ pub fn deepest_of<'a>(h: Header, l: Layout, base: &'a [u8], grown: &'a [u8]) -> 
 
 // The bound keeps the number away from the least i64, which has no negative.
 fn absolute(z: i64) -> u64
-    requires { ⌜ natAbs z ≤ 6 * greatestPlace ^ 3 ⌝ }
+    requires { ⌜ natAbs z ≤ most ⌝ }
     ensures { λ r. ⌜ r ≡ natAbs z ⌝ }
 {
     if z < 0 {

@@ -1,11 +1,12 @@
--- What it means that check accepts a mesh, in document 01's words: of each row 1 to 10 of "Numbers we give back" what holds where it is
+-- What it means that check accepts a mesh, in the documents' words: of each row 1 to 10 of "Numbers we give back", and of 22, what holds where it is
 -- not given, as plain statements about the tables that the bytes hold.
 use mathlib.Core.Path.{_≡_}
 use mathlib.Core.Logic.{_↔_, _≢_, _⊎_}
 use mathlib.Core.List.{List}
 use Prim.Native.Nat.{ℕ, _+_, _≤_, _<_}
 use lib.ListN.{length}
-use lib.IntN.{ℤ, natAbs}
+use lib.IntN.{ℤ, pos, natAbs}
+use lib.Signed.{_≤ℤ_}
 use Rattle.algebra.specs.Multiple.{Multiple}
 use Rattle.piece.specs.declared.Piece.{Piece}
 use Rattle.piece.specs.declared.Ends.{Ends}
@@ -16,8 +17,9 @@ use Rattle.piece_cut.specs.Cut.{cutOf}
 use Rattle.grid.specs.Places.{Point, pointOf}
 use Rattle.grid.specs.Corners.{Midpoint}
 use Rattle.stored.specs.declared.Limits.{Limits}
+use Rattle.stored.specs.declared.Vertex.{Vertex}
 use Rattle.stored.specs.Layout.{none, limits, headerWidth, meshLength, byteAt, u16At}
-use Rattle.mesh_tables.specs.Tables.{Tables, tablesOf, baseVertices, allVertices, baseRecords, allRecords, pieceAt, refinementEnds, sixfoldAt}
+use Rattle.mesh_tables.specs.Tables.{Tables, tablesOf, baseVertices, allVertices, baseRecords, allRecords, pieceAt, refinementEnds, signedAt, sixfoldAt}
 
 -- ---- 1 and 2: the bytes
 
@@ -100,21 +102,32 @@ pub record RightVertices (m : Tables) : Type 0 where
   -- no "parent pair used twice"
   pub one-pair : (u v : ℕ) → Made m u → Made m v → parentP m u ≡ parentP m v → parentQ m u ≡ parentQ m v → u ≡ v
 
--- ---- 5 and 6: the base records
+-- ---- 5: the base records
 
-pub record BaseRecord (m : Tables) (n : ℕ) : Type 0 where
+-- A piece of a base with so many vertices.
+pub record BasePiece (count : ℕ) (vertexAt : ℕ → Vertex) (p : Piece) : Type 0 where
   -- no "equal corners"
-  pub different : (j k : ℕ) → j < 4 → k < 4 → cornerAt (pieceAt m n) j ≡ cornerAt (pieceAt m n) k → j ≡ k
+  pub different : (j k : ℕ) → j < 4 → k < 4 → cornerAt p j ≡ cornerAt p k → j ≡ k
   -- no "corner not in the base"
-  pub in-base : (k : ℕ) → k < 4 → cornerAt (pieceAt m n) k < baseVertices m
+  pub in-base : (k : ℕ) → k < 4 → cornerAt p k < count
   -- no "sixfold volume 0"
-  pub volume : sixfoldAt (m .vertexAt) (pieceAt m n) ≢ 0
+  pub volume : sixfoldAt vertexAt p ≢ 0
   -- no "generation or flag not 0"
-  pub generation : pieceAt m n .generation ≡ 0
-  pub flag : pieceAt m n .flag ≡ 0
+  pub generation : p .generation ≡ 0
+  pub flag : p .flag ≡ 0
+
+abbrev pub BaseRecord : Tables → ℕ → Type 0
+BaseRecord m n = BasePiece (baseVertices m) (m .vertexAt) (pieceAt m n)
 
 abbrev pub RightBaseRecords : Tables → Type 0
 RightBaseRecords m = (n : ℕ) → n < baseRecords m → BaseRecord m n
+
+-- ---- 22: no "base record with a negative value" (document 02)
+
+abbrev pub RightHanded : Tables → Type 0
+RightHanded m = (n : ℕ) → n < baseRecords m → pos 0 ≤ℤ signedAt (m .vertexAt) (pieceAt m n)
+
+-- ---- 6: the base records' marks
 
 -- Edge e is an edge of face i, "the face without slot i": neither end has slot i.
 pub record EdgeOf (i e : ℕ) : Type 0 where
@@ -229,9 +242,9 @@ pub record RightCuts (m : Tables) : Type 0 where
 abbrev pub NoneHangs : Tables → Type 0
 NoneHangs m = (n : ℕ) → n < allRecords m → Leaf m n → (e : ℕ) → e < 6 → (v : ℕ) → Made m v → HasParents m (endsOf (pieceAt m n) e) v → ⊥
 
--- ---- all ten
+-- ---- all of them
 
--- 3 to 9, but for how many vertices and records there may be: what holds also of a mesh in which edges hang, and under any limits.
+-- 3 to 9 and 22, but for how many vertices and records there may be: what holds also of a mesh in which edges hang, and under any limits.
 pub record RightMesh (m : Tables) : Type 0 where
   -- 3: at least 4 base vertices and 1 base record, no "base above all"
   pub counts : RightCounts m
@@ -239,6 +252,8 @@ pub record RightMesh (m : Tables) : Type 0 where
   pub vertices : RightVertices m
   -- 5: base records have four different base vertices for corners, a sixfold volume, generation 0 and flag 0
   pub base-records : RightBaseRecords m
+  -- 22: none of them has a negative value
+  pub handed : RightHanded m
   -- 6: base records have their marks on their faces, and the refinement edge on both faces that contain it
   pub base-marks : RightBaseMarks m
   -- 7: a face is in at most two base records, and has one mark; no two base records have the same corners
@@ -255,7 +270,7 @@ pub record Accepted (s : List ℕ) : Type 0 where
   pub mark : RightMark s
   -- 3: "at most 1,024 vertices and 3,072 records"
   pub limits : Within limits (tablesOf s)
-  -- the rest of 3, and 4 to 9
+  -- the rest of 3, 4 to 9, and 22
   pub mesh : RightMesh (tablesOf s)
   -- 10: no "hanging edge"
   pub none-hangs : NoneHangs (tablesOf s)

@@ -1,4 +1,4 @@
--- Rules 5 and 6: the base records.
+-- Rules 5, 22 and 6: the base records.
 use mathlib.Core.Path.{_≡_, refl, sym, ap, _∙_}
 use mathlib.Core.Bool.{true}
 use mathlib.Core.Logic.{_≢_, _⊎_, ⊎-elim, Iff·rfl}
@@ -10,13 +10,16 @@ use Rattle.piece.specs.declared.Piece.{Piece}
 use Rattle.piece_edges.specs.Edges.{lowSlot, highSlot, slots-small, hasSlot, onFace}
 use Rattle.piece.specs.Shape.{Shape, shapeOf, mark, markFits, flagFits, validShape, Valid}
 use Rattle.piece.specs.Ends.{cornerAt}
-use Rattle.mesh_tables.specs.Tables.{Tables, baseVertices, baseRecords, pieceAt, sixfoldAt}
-use Rattle.check_refusals.specs.Refusals.{equalCorners, cornerNotInBase, badPiece, badBaseRecord, badBaseRecords, badMarks, badBaseMarks}
+use Rattle.stored.specs.declared.Vertex.{Vertex}
+use Rattle.grid_volume.specs.Volume.{signedOf, leftHanded}
+use Rattle.grid_volume.specs.Handed.{not-negative}
+use Rattle.mesh_tables.specs.Tables.{Tables, baseVertices, baseRecords, pieceAt, cornerPoint, signedAt, sixfoldAt}
+use Rattle.check_refusals.specs.Refusals.{equalCorners, cornerNotInBase, badCorners, badPiece, badBaseRecord, badBaseRecords, leftHandedRecord, leftHandedRecords, badMarks, badBaseMarks}
 use Rattle.check_meaning.specs.Tests.{Passes, Fails, reads, equal, below, not-below, not-at-most, not-fails, not-passes, fails-unless, and-passes, implies-passes, or-passes, or-fails, all-pass, any-passes, none-passes}
-use Rattle.check_meaning.specs.Accepted.{BaseRecord, RightBaseRecords, EdgeOf, RightMarks, RightBaseMarks}
+use Rattle.check_meaning.specs.Accepted.{BasePiece, RightBaseRecords, RightHanded, EdgeOf, RightMarks, RightBaseMarks}
 
 -- Every two slots are the ends of an edge, one way round or the other; the ends of an edge are two.
-slots-joined : (j : ℕ) → j < 4 → (k : ℕ) → k < 4 → (j ≡ k) ⊎ ((e : ℕ) × (e < 6) × (((lowSlot e ≡ j) × (highSlot e ≡ k)) ⊎ ((lowSlot e ≡ k) × (highSlot e ≡ j))))
+pub slots-joined : (j : ℕ) → j < 4 → (k : ℕ) → k < 4 → (j ≡ k) ⊎ ((e : ℕ) × (e < 6) × (((lowSlot e ≡ j) × (highSlot e ≡ k)) ⊎ ((lowSlot e ≡ k) × (highSlot e ≡ j))))
 unfolding lowSlot highSlot anyBelow allBelow
 slots-joined =
     all-pass 4 (λ j lj. all-pass 4 (λ k lk. or-passes (equal j k)
@@ -44,7 +47,7 @@ unfolding validShape
 valid-is s = and-passes (below (s .edge) 6) (and-passes (all-pass 4 (λ i l. Iff·rfl)) Iff·rfl)
 
 module _ (p : Piece) where
-  corners-differ : Fails (equalCorners p) ((j k : ℕ) → j < 4 → k < 4 → cornerAt p j ≡ cornerAt p k → j ≡ k)
+  corners-differ : Fails (equalCorners (p .corners)) ((j k : ℕ) → j < 4 → k < 4 → cornerAt p j ≡ cornerAt p k → j ≡ k)
   unfolding equalCorners
   corners-differ =
       reads (none-passes 6 λ e l. fails-unless (equal (cornerAt p (lowSlot e)) (cornerAt p (highSlot e))))
@@ -82,25 +85,29 @@ module _ (p : Piece) where
       let fits : (i : ℕ) → i < 4 → EdgeOf i (mark (shapeOf p) i) × (EdgeOf i (p .edge) → mark (shapeOf p) i ≡ p .edge) = λ i l. mark-fits (p .edge) (mark (shapeOf p) i) i .0 (marks i l) in
       record { edge = edge; marks = λ i l. fits i l .0; refinement-faces = λ i l. fits i l .1 }
 
-module _ (m : Tables) where
-  base-record : (n : ℕ) → Fails (badBaseRecord m n) (BaseRecord m n)
-  unfolding badBaseRecord badPiece cornerNotInBase
-  base-record n =
-      let p = pieceAt m n in
-      reads
-      (or-fails
-      (or-fails
-      (or-fails
-      (or-fails (corners-differ p) (none-passes 4 λ k l. not-at-most (baseVertices m) (cornerAt p k)))
-      (fails-unless (equal (sixfoldAt (m .vertexAt) p) 0)))
-      (not-fails (equal (p .generation) 0)))
-      (not-fails (equal (p .flag) 0)))
-      (λ h. record { different = h .0 .0 .0 .0; in-base = h .0 .0 .0 .1; volume = h .0 .0 .1; generation = h .0 .1; flag = h .1 })
-      (λ r. ((((r .different, r .in-base), r .volume), r .generation), r .flag))
+-- Rule 5 for a piece, whosever it is.
+pub base-piece : (count : ℕ) (vertexAt : ℕ → Vertex) (p : Piece) → Fails (badPiece count vertexAt p) (BasePiece count vertexAt p)
+unfolding badPiece badCorners cornerNotInBase
+base-piece count vertexAt p =
+    reads
+    (or-fails
+    (or-fails
+    (or-fails
+    (or-fails (corners-differ p) (none-passes 4 λ k l. not-at-most count (cornerAt p k)))
+    (fails-unless (equal (sixfoldAt vertexAt p) 0)))
+    (not-fails (equal (p .generation) 0)))
+    (not-fails (equal (p .flag) 0)))
+    (λ h. record { different = h .0 .0 .0 .0; in-base = h .0 .0 .0 .1; volume = h .0 .0 .1; generation = h .0 .1; flag = h .1 })
+    (λ r. ((((r .different, r .in-base), r .volume), r .generation), r .flag))
 
+module _ (m : Tables) where
   pub rule5-holds : Fails (badBaseRecords m) (RightBaseRecords m)
-  unfolding badBaseRecords
-  rule5-holds = none-passes (baseRecords m) (λ n l. base-record n)
+  unfolding badBaseRecords badBaseRecord
+  rule5-holds = none-passes (baseRecords m) (λ n l. base-piece (baseVertices m) (m .vertexAt) (pieceAt m n))
+
+  pub rule22-holds : Fails (leftHandedRecords m) (RightHanded m)
+  unfolding leftHandedRecords leftHandedRecord leftHanded signedAt
+  rule22-holds = none-passes (baseRecords m) (λ n l. not-negative (signedOf (cornerPoint (m .vertexAt) (pieceAt m n))))
 
   pub rule6-holds : Fails (badBaseMarks m) (RightBaseMarks m)
   unfolding badBaseMarks

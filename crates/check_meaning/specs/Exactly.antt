@@ -1,4 +1,4 @@
--- Check accepts exactly the meshes that document 01 asks for, and refuses every other with the number of the first rule that it breaks.
+-- Check accepts exactly the meshes that the documents ask for, and refuses every other with the number of the first rule that it breaks.
 use mathlib.Core.Path.{_≡_, refl}
 use mathlib.Core.Logic.{_↔_}
 use mathlib.Core.List.{List, [], _∷_}
@@ -8,10 +8,10 @@ use Rattle.stored.specs.Layout.{limits}
 use Rattle.mesh_tables.specs.Tables.{tablesOf}
 use Rattle.check_refusals.specs.Check.{rows, tableRows, checkNumber}
 use Rattle.check_meaning.specs.Tests.{reads}
-use Rattle.check_meaning.specs.Accepted.{RightLength, RightMark, Within, RightCounts, RightVertices, RightBaseRecords, RightBaseMarks, RightFaces, RightUses, RightCuts, NoneHangs, Accepted}
+use Rattle.check_meaning.specs.Accepted.{RightLength, RightMark, Within, RightCounts, RightVertices, RightBaseRecords, RightHanded, RightBaseMarks, RightFaces, RightUses, RightCuts, NoneHangs, Accepted}
 use Rattle.check_meaning.specs.Heading.{rule1-holds, rule2-holds, rule3-holds}
 use Rattle.check_meaning.specs.Vertices.{rule4-holds}
-use Rattle.check_meaning.specs.Bases.{rule5-holds, rule6-holds}
+use Rattle.check_meaning.specs.Bases.{rule5-holds, rule22-holds, rule6-holds}
 use Rattle.check_meaning.specs.Faces.{rule7-holds, rule8-holds}
 use Rattle.check_meaning.specs.Cuts.{stored-four, rule9-holds, rule10-holds}
 
@@ -24,6 +24,7 @@ checkRules s =
     ∷ rule 3 (Within limits m × RightCounts m)
     ∷ rule 4 (RightVertices m)
     ∷ rule 5 (RightBaseRecords m)
+    ∷ rule 22 (RightHanded m)
     ∷ rule 6 (RightBaseMarks m)
     ∷ rule 7 (RightFaces m)
     ∷ rule 8 (RightUses m)
@@ -37,7 +38,7 @@ module _ (s : List ℕ) where
   check-judged =
       let m = tablesOf s in
       judge (rule1-holds s) λ h1. judge (rule2-holds s) λ h2. judge (rule3-holds limits s) λ h3. judge (rule4-holds m (h3 .1 .vertices-within)) λ h4.
-      judge (rule5-holds m) λ h5. judge (rule6-holds m) λ h6. judge (rule7-holds m) λ h7. judge (rule8-holds m) λ h8.
+      judge (rule5-holds m) λ h5. judge (rule22-holds m) λ h22. judge (rule6-holds m) λ h6. judge (rule7-holds m) λ h7. judge (rule8-holds m) λ h8.
       judge (rule9-holds m h4 (stored-four s)) λ h9. judge (rule10-holds m) λ h10. done
 
   -- Check gives a number exactly where every rule before it holds and its own does not.
@@ -45,18 +46,18 @@ module _ (s : List ℕ) where
   unfolding checkNumber rows tableRows
   refuses-exactly = given-exactly check-judged refl
 
-  -- Check gives 0 exactly where all ten rules hold.
+  -- Check gives 0 exactly where all these rules hold.
   pub accepts-exactly : (checkNumber s ≡ 0) ↔ Accepted s
   unfolding checkNumber rows tableRows
   accepts-exactly =
       reads (accepted-exactly check-judged refl)
-      (λ (h1, (h2, (h3, (h4, (h5, (h6, (h7, (h8, (h9, (h10, end)))))))))).
+      (λ (h1, (h2, (h3, (h4, (h5, (h22, (h6, (h7, (h8, (h9, (h10, end))))))))))).
       record {
         length = h1;
         mark = h2;
         limits = h3 .0;
-        mesh = record { counts = h3 .1; vertices = h4; base-records = h5; base-marks = h6; faces = h7; uses = h8; cuts = h9 };
+        mesh = record { counts = h3 .1; vertices = h4; base-records = h5; handed = h22; base-marks = h6; faces = h7; uses = h8; cuts = h9 };
         none-hangs = h10;
       })
       (λ a. let m = a .mesh in
-      (a .length, (a .mark, ((a .limits, m .counts), (m .vertices, (m .base-records, (m .base-marks, (m .faces, (m .uses, (m .cuts, (a .none-hangs, tt)))))))))))
+      (a .length, (a .mark, ((a .limits, m .counts), (m .vertices, (m .base-records, (m .handed, (m .base-marks, (m .faces, (m .uses, (m .cuts, (a .none-hangs, tt))))))))))))

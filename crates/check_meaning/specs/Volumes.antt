@@ -1,4 +1,4 @@
--- Cutting halves volumes: the leaves' sixfold volumes add up to those of the base records.
+-- Cutting halves signed values: every record is right-handed, and the leaves' sixfold volumes add up to those of the base records.
 use mathlib.Core.Path.{_≡_, refl, sym, ap, ap₂, _∙_, fun-ext}
 use mathlib.Core.Bool.{Bool, true, false, cond, _||_}
 use mathlib.Core.Logic.{_≢_, ⊎-elim}
@@ -6,6 +6,7 @@ use Prim.Native.Nat.{ℕ, _+_, _*_, _<_}
 use native.Mathlib.Nat.{mul-comm}
 use native.Mathlib.Omega.{arith}
 use lib.IntN.{ℤ, pos, natAbs, _*ℤ_}
+use lib.Signed.{_<ℤ_}
 use lib.Dec.{eqb, ltb}
 use borrow.Author.Tests.{ltb-true, ltb-false, eqb-true, eqb-false, ne-eqb}
 use Rattle.algebra.specs.Absolute.{abs-times}
@@ -17,6 +18,7 @@ use Rattle.piece_cut.specs.Cut.{childOf, cutOf}
 use Rattle.grid_volume.specs.Volume.{signedOf, sixfoldOf}
 use Rattle.grid.specs.Corners.{Midpoint}
 use Rattle.grid_volume.specs.VolumeTheorems.{half-signed, midpoint-turned}
+use Rattle.grid_volume.specs.Handed.{positive, half-positive, not-negative}
 use Rattle.stored.specs.Layout.{none}
 use Rattle.mesh_tables.specs.Tables.{Tables, baseRecords, allRecords, pieceAt, isLeaf, cornerPoint, signedAt, sixfoldAt}
 use Rattle.check_refusals.specs.Refusals.{isChildOf}
@@ -25,7 +27,7 @@ use Rattle.check_meaning.specs.Tests.{fails-unless}
 use Rattle.check_meaning.specs.Accepted.{RightMesh, RightCut, firstChild, pointAt}
 use Rattle.check_meaning.specs.Bases.{slots-apart, valid-is}
 use Rattle.check_meaning.specs.Cuts.{Four, child-of}
-use Rattle.check_meaning.specs.Descent.{ends-are, lower-is-end, higher-is-end, child-corner, every-sound, base-no-child}
+use Rattle.check_meaning.specs.Descent.{ends-are, lower-is-end, higher-is-end, child-corner, by-descent, every-sound, base-no-child}
 use Rattle.check_meaning.specs.Sums.{sum-plus, sum-of-none, sum-swap, sum-of-one, sum-of-part, sum-at, sum-parts}
 
 -- The child's corners are the parent's with w's place in slot k.
@@ -71,6 +73,17 @@ module _ (m : Tables) (a : RightMesh m) (four : (n : ℕ) → Four (pieceAt m n)
         ap (λ (z : ℤ). pos 2 *ℤ z) first ∙ half-signed corner w v u lv lu (λ e. apart (sym e)) (midpoint-turned w (corner u) (corner v) middle),
         ap (λ (z : ℤ). pos 2 *ℤ z) second ∙ half-signed corner w u v lu lv apart middle,
       )
+
+  -- So every record is right-handed: the base is by rules 5 and 22.
+  pub every-right-handed : (n : ℕ) → n < allRecords m → pos 0 <ℤ signed m n
+  unfolding signedAt sixfoldAt sixfoldOf
+  every-right-handed =
+      by-descent m (a .cuts) (λ n. pos 0 <ℤ signed m n)
+      (λ n l. positive (signed m n) (a .base-records n l .volume) (not-negative (signed m n) .1 (a .handed n l)))
+      (λ c l d h.
+      let (first, second) = children-halve-signed (d .parent) (omega (arith, d .before)) (d .cut) in
+      let twofold : ℕ → ℤ = λ n. pos 2 *ℤ signed m n in
+      half-positive (signed m (d .parent)) (signed m c) (⊎-elim (λ e. ap twofold (sym e) ∙ first) (λ e. ap twofold (sym e) ∙ second) (d .child .is)) h)
 
   -- So each child of a cut record has half its volume.
   pub children-halve : (n : ℕ) → n < allRecords m → RightCut m n → (volume m (firstChild m n) * 2 ≡ volume m n) × (volume m (firstChild m n + 1) * 2 ≡ volume m n)

@@ -1,17 +1,16 @@
-// Refusal 5: base records that are no pieces.
+// Refusal 5: base records that are no pieces; refusal 22: those that are left-handed.
 use stored::Header;
 use stored::Layout;
 ghost use mathlib.Core.Path.{_≡_};
-ghost use lib.ListN.{getD};
-ghost use lib.Dec.{eqb, leb};
-ghost use Rattle.laws.specs.Below.{anyBelow};
-ghost use Rattle.piece_edges.specs.Edges.{lowSlot, highSlot};
+ghost use mathlib.Core.Bool.{cond};
+ghost use lib.Dec.{eqb};
 ghost use Rattle.mesh_tables.specs.Tables.{tables};
-ghost use Rattle.check_refusals.specs.Refusals.{badBaseRecord, badBaseRecords};
+ghost use Rattle.check_refusals.specs.Refusals.{equalCorners, cornerNotInBase, badCorners};
+ghost use Rattle.check_pieces.specs.Pieces.{recordNumber, piecesNumber};
 
 // The ends of the six edges, one edge after the other.
 fn equal_corners(corners: [u32; 4]) -> bool
-    ensures { λ r. ⌜ r ≡ anyBelow 6 (λ e. eqb (getD corners (lowSlot e) 0) (getD corners (highSlot e) 0)) ⌝ }
+    ensures { λ r. ⌜ r ≡ equalCorners corners ⌝ }
 {
     let a = corners[0];
     let b = corners[1];
@@ -36,7 +35,7 @@ fn equal_corners(corners: [u32; 4]) -> bool
 }
 
 fn corner_not_in_base(count: u32, corners: [u32; 4]) -> bool
-    ensures { λ r. ⌜ r ≡ anyBelow 4 (λ k. leb count (getD corners k 0)) ⌝ }
+    ensures { λ r. ⌜ r ≡ cornerNotInBase count corners ⌝ }
 {
     let mut k: usize = 0;
     while k < 4 {
@@ -48,36 +47,64 @@ fn corner_not_in_base(count: u32, corners: [u32; 4]) -> bool
     false
 }
 
-fn bad_base_record<'a>(h: Header, l: Layout, base: &'a [u8], grown: &'a [u8], n: usize) -> bool
-    ensures { λ r. ⌜ r ≡ badBaseRecord (tables h l (now (base .entry)) (now (grown .entry))) n ⌝ }
+// Of a base with so many vertices.
+pub fn bad_corners(count: u32, corners: [u32; 4]) -> bool
+    ensures { λ r. ⌜ r ≡ badCorners count corners ⌝ }
 {
-    let corners = stored_entries::corners_in(l, base, grown, n);
     if equal_corners(corners) {
         return true;
     }
-    if corner_not_in_base(h.base_vertices, corners) {
-        return true;
-    }
-    if mesh_tables::signed_between(l, base, grown, corners) == 0 {
-        return true;
-    }
-    if stored_entries::generation_in(l, base, grown, n) != 0 {
-        return true;
-    }
-    stored_entries::flag_in(l, base, grown, n) != 0
+    corner_not_in_base(count, corners)
 }
 
-// Refusal 5.
-pub fn bad_base_records<'a>(h: Header, l: Layout, base: &'a [u8], grown: &'a [u8]) -> bool
-    ensures { λ r. ⌜ r ≡ badBaseRecords (tables h l (now (base .entry)) (now (grown .entry))) ⌝ }
+// Refusals 5 and 22 of record n, tried in this order, or 0: both look at the signed determinant.
+fn record_number<'a>(h: Header, l: Layout, base: &'a [u8], grown: &'a [u8], n: usize) -> u64
+    ensures { λ r. ⌜ r ≡ recordNumber (tables h l (now (base .entry)) (now (grown .entry))) n ⌝ }
+{
+    let corners = stored_entries::corners_in(l, base, grown, n);
+    if bad_corners(h.base_vertices, corners) {
+        return 5;
+    }
+    let signed = mesh_tables::signed_between(l, base, grown, corners);
+    if grid_volume::is_flat(signed) {
+        return 5;
+    }
+    if stored_entries::generation_in(l, base, grown, n) != 0 {
+        return 5;
+    }
+    if stored_entries::flag_in(l, base, grown, n) != 0 {
+        return 5;
+    }
+    if grid_volume::is_negative(signed) {
+        return 22;
+    }
+    0
+}
+
+// The number found, or where it is 0 the one before.
+fn or_before(found: u64, before: u64) -> u64
+    ensures { λ r. ⌜ r ≡ cond (eqb found 0) before found ⌝ }
+{
+    if found == 0 {
+        return before;
+    }
+    found
+}
+
+// Refusals 5 and 22, tried in this order, or 0: a bad record anywhere is 5.
+pub fn pieces_number<'a>(h: Header, l: Layout, base: &'a [u8], grown: &'a [u8]) -> u64
+    ensures { λ r. ⌜ r ≡ piecesNumber (tables h l (now (base .entry)) (now (grown .entry))) ⌝ }
 {
     let count = h.base_records as usize;
+    let mut left: u64 = 0;
     let mut n: usize = 0;
     while n < count {
-        if bad_base_record(h, l, base, grown, n) {
-            return true;
+        let found = record_number(h, l, base, grown, n);
+        if found == 5 {
+            return 5;
         }
+        left = or_before(found, left);
         n += 1;
     }
-    false
+    left
 }

@@ -1,7 +1,8 @@
--- Document 01's table, refusals 1 to 10: for each number when exactly it is given.
+-- Document 01's table, refusals 1 to 10, and document 02's 22: for each number when exactly it is given.
 use mathlib.Core.Bool.{Bool, not, cond, _&&_, _||_}
 use mathlib.Core.List.{List}
 use Prim.Native.Nat.{ℕ, _+_}
+use lib.ListN.{getD}
 use lib.Dec.{eqb, ltb, leb}
 use Rattle.laws.specs.Below.{anyBelow, allBelow, countBelow}
 use Rattle.piece.specs.declared.Piece.{Piece}
@@ -12,12 +13,13 @@ use Rattle.piece.specs.Ends.{cornerAt, endsOf}
 use Rattle.piece.specs.Same.{samePiece}
 use Rattle.piece_cut.specs.Cut.{cutOf}
 use Rattle.grid.specs.Places.{pointOf, onGrid, samePlace, isHalfway}
+use Rattle.grid_volume.specs.Volume.{leftHanded}
 use Rattle.stored.specs.declared.Limits.{Limits}
 use Rattle.stored.specs.declared.Header.{Header}
 use Rattle.stored.specs.declared.Vertex.{Vertex}
 use Rattle.stored.specs.declared.Record.{Record}
 use Rattle.stored.specs.Layout.{none, parentsOf, rightLength, rightMark}
-use Rattle.mesh_tables.specs.Tables.{Tables, baseVertices, allVertices, baseRecords, allRecords, pieceAt, uncut, isCut, hasParents, vertexWith, refinementEnds, sixfoldAt}
+use Rattle.mesh_tables.specs.Tables.{Tables, baseVertices, allVertices, baseRecords, allRecords, pieceAt, uncut, isCut, hasParents, vertexWith, refinementEnds, cornerPoint, sixfoldAt}
 
 -- ---- 1: "under 20 bytes, or length is not 20 + 10·vertices + 17·records"
 
@@ -74,23 +76,34 @@ badVertices m = anyBelow (allVertices m) (badVertex m)
 -- ---- 5
 
 -- "equal corners"
-unfoldable pub equalCorners : Piece → Bool
-equalCorners p = anyBelow 6 (λ e. eqb (cornerAt p (lowSlot e)) (cornerAt p (highSlot e)))
+unfoldable pub equalCorners : List ℕ → Bool
+equalCorners corners = anyBelow 6 (λ e. eqb (getD corners (lowSlot e) 0) (getD corners (highSlot e) 0))
 
--- "a corner not in the base"
-unfoldable pub cornerNotInBase : ℕ → Piece → Bool
-cornerNotInBase count p = anyBelow 4 (λ k. leb count (cornerAt p k))
+-- "a corner not in the base", which has so many vertices
+unfoldable pub cornerNotInBase : ℕ → List ℕ → Bool
+cornerNotInBase count corners = anyBelow 4 (λ k. leb count (getD corners k 0))
+
+unfoldable pub badCorners : ℕ → List ℕ → Bool
+badCorners count corners = equalCorners corners || cornerNotInBase count corners
 
 -- "base record with equal corners, a corner not in the base, sixfold volume 0, generation or flag not 0"
-unfoldable pub badPiece : Tables → Piece → Bool
-badPiece m p =
-    equalCorners p || cornerNotInBase (baseVertices m) p || eqb (sixfoldAt (m .vertexAt) p) 0 || not (eqb (p .generation) 0) || not (eqb (p .flag) 0)
+unfoldable pub badPiece : ℕ → (ℕ → Vertex) → Piece → Bool
+badPiece count vertexAt p =
+    badCorners count (p .corners) || eqb (sixfoldAt vertexAt p) 0 || not (eqb (p .generation) 0) || not (eqb (p .flag) 0)
 
 unfoldable pub badBaseRecord : Tables → ℕ → Bool
-badBaseRecord m n = badPiece m (pieceAt m n)
+badBaseRecord m n = badPiece (baseVertices m) (m .vertexAt) (pieceAt m n)
 
 unfoldable pub badBaseRecords : Tables → Bool
 badBaseRecords m = anyBelow (baseRecords m) (badBaseRecord m)
+
+-- ---- 22, document 02: "a base record with a negative value"
+
+unfoldable pub leftHandedRecord : Tables → ℕ → Bool
+leftHandedRecord m n = leftHanded (cornerPoint (m .vertexAt) (pieceAt m n))
+
+unfoldable pub leftHandedRecords : Tables → Bool
+leftHandedRecords m = anyBelow (baseRecords m) (leftHandedRecord m)
 
 -- ---- 6: "base record with an edge code above 5, a mark not on its face, or a refinement face not marked with the refinement edge"
 

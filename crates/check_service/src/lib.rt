@@ -84,7 +84,7 @@ fn closed<'a>(
     }
 }
 
-// Refusals 4 to 8, of the vertices and the base, tried in their order, or 0.
+// Refusals 4, 5, 22, 6, 7 and 8, of the vertices and the base, tried in this order, or 0.
 fn judged_base<'a>(
     h: Header,
     l: Layout,
@@ -103,8 +103,9 @@ fn judged_base<'a>(
     if check_places::bad_vertices(h, l, base, grown, heads, links) {
         return 4;
     }
-    if check_pieces::bad_base_records(h, l, base, grown) {
-        return 5;
+    let found = check_pieces::pieces_number(h, l, base, grown);
+    if found != 0 {
+        return found;
     }
     if check_marks::bad_base_marks(h, l, base, grown) {
         return 6;
@@ -138,7 +139,7 @@ fn judged_cuts<'a>(
     closed(h, l, base, grown, heads, links)
 }
 
-// Refusals 4 to 10, or none. Each vertex has one count, of its uses and then of the edges that it halves.
+// Refusals 4 to 10 and 22, or none. Each vertex has one count, of its uses and then of the edges that it halves.
 fn judged_with<'a>(
     h: Header,
     l: Layout,

@@ -38,20 +38,20 @@ use Rattle.list_service.specs.declared.Listed.{Listed}
 use Rattle.list_service.specs.Listing.{linesOf, meshLines, listingOf, listedNumber, ListOutcomeIs, largestListing}
 use Rattle.list_service.specs.Answer.{list-whole, list-short}
 use Rattle.list_meaning.specs.Longest.{no-line-longer, listing-at-most}
-use Rattle.demands_words.specs.Words.{StoredMesh, ArgumentTypes}
+use Rattle.demands_words.specs.Words.{checkNumbers, StoredMesh, ArgumentTypes}
 use Rattle.demands_proofs.specs.GivenTypes.{given-by-types}
-use Rattle.demands_proofs.specs.Outcomes.{zero-or-not, check-number, refused-figures, no-hanging-edge, accepted-length, build-number, built-vertices, built-records, built-as-long, built-few, built-within, built-bytes, built-header, built-checked, refine-refused, refine-length, refined-vertices, refined-records, refined-as-long, refined-few, refined-within, refined-header, too-long-line, refused-line, accepted-lines, line-ends}
+use Rattle.demands_proofs.specs.Outcomes.{zero-or-not, check-number, refused-figures, no-hanging-edge, accepted-length, build-number, built-vertices, built-records, built-as-long, built-few, built-within, built-bytes, built-header, built-checked, refine-number, refine-refused, refine-length, refined-vertices, refined-records, refined-as-long, refined-few, refined-within, refined-header, too-long-line, refused-line, accepted-lines, line-ends}
 use Rattle.demands.specs.Demand3.{RefinedFrom, any-room}
 
 -- ---- the words
 
 -- What check answers, for a byte string.
 pub record CheckOutcome (s : List ℕ) (r : Report) : Type 0 where
-  -- Accepted, and then it is as long as its header says, "20 + 10·vertices + 17·records"; or refused with one of 1 to 10, and then leaves, depth and volume
-  -- are 0.
+  -- Accepted, and then it is as long as its header says, "20 + 10·vertices + 17·records"; or refused with one of 1 to 10 or 22, and then leaves, depth and
+  -- volume are 0.
   pub either :
       ((r .number ≡ 0) × (length s ≡ meshLength (headerOf s .vertices) (headerOf s .records)))
-      ⊎ ((1 ≤ r .number) × (r .number ≤ 10) × (r .leaves ≡ 0) × (r .deepest ≡ 0) × (r .sixfold ≡ 0))
+      ⊎ (OneOf checkNumbers (r .number) × (r .leaves ≡ 0) × (r .deepest ≡ 0) × (r .sixfold ≡ 0))
   -- "with 10 it also returns the first leaf edge found hanging, by record and then edge code; with any other answer both are 0"
   pub hanging : r .number ≡ 10 → HangingEdge (tablesOf s) (r .«record») (r .edge)
   pub hanging-first : r .number ≡ 10 → (n e : ℕ) → HangingEdge (tablesOf s) n e → (r .«record» < n) ⊎ ((r .«record» ≡ n) × (r .edge ≤ e))
@@ -90,8 +90,10 @@ pub record BuildOutcome (job : ℕ) (coordinates : List ℤ) (corners : List ℕ
 
 -- What refine answers, for two byte strings and a length of the output buffer.
 pub record RefineOutcome (mesh selection : List ℕ) (room number : ℕ) (bytes : List ℕ) : Type 0 where
-  -- "either a mesh", "or a numbered refusal", one of 1 to 20, and "all zeros".
-  pub either : ((number ≡ 0) × MeshIn bytes room) ⊎ ((1 ≤ number) × (number ≤ 20) × (bytes ≡ replicate room 0))
+  -- "either a mesh", "or a numbered refusal", one of 1 to 20 or 22, and "all zeros".
+  pub either :
+      ((number ≡ 0) × MeshIn bytes room)
+      ⊎ (OneOf (checkNumbers ++ (11 ∷ 12 ∷ 13 ∷ 14 ∷ 15 ∷ 16 ∷ 17 ∷ 18 ∷ 19 ∷ 20 ∷ [])) number × (bytes ≡ replicate room 0))
   -- The output buffer keeps its length.
   pub length : length bytes ≡ room
   -- Which mesh it is, whatever the buffer's length: what demand 3 says of the least closing set, and that set alone.
@@ -126,7 +128,7 @@ check-outcome s =
     record {
       either = ⊎-elim
           (λ e. inl (e, accepted-length s e))
-          (λ n. let f = refused-figures s n in inr (omega (arith, n), check-number s, f .0, f .1, f .2))
+          (λ n. let f = refused-figures s n in inr (⊎-elim (λ e. absurd (n e)) (λ other. other) (check-number s), f .0, f .1, f .2))
           (zero-or-not (checkOf s .number));
       hanging = λ e. hanging-first s e .0;
       hanging-first = λ e. hanging-first s e .1;
@@ -166,7 +168,7 @@ refine-outcome mesh selection b room =
     record {
       either = ⊎-elim
           (λ e. inl (e, refined e))
-          (λ n. inr (omega (arith, n), Refine.number-at-most mesh selection room, refine-refused mesh selection room n))
+          (λ n. inr (⊎-elim (λ e. absurd (n e)) (λ other. other) (refine-number mesh selection room), refine-refused mesh selection room n))
           (zero-or-not (refineNumber mesh selection room));
       length = refine-length mesh selection room;
       refined = λ e x. any-room mesh x selection room e;

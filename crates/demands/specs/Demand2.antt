@@ -2,8 +2,8 @@
 -- mesh is accepted exactly when it is a set of such cuts of a properly marked base mesh with no hanging edge, within 01's limits; the leaves, depth and
 -- volume reported are that set's."
 --
--- The words are in `Words`. The definitions to the byte: `plainBytes` (build_service/specs/Build) is the mesh that build's lists say, marked as document 01
--- ranks edges; `closed` and `resultOf` (refine_service/specs/Refine) are the tables after pass one and all later passes, and the mesh written of them.
+-- The words are in `Words`. The definitions to the byte: `plainBytes` (build_service/specs/Build) is the mesh that build's lists say, made right-handed and
+-- marked as document 01 ranks edges; `closed` and `resultOf` (refine_service/specs/Refine) are the tables after pass one and all later passes, and the mesh written of them.
 use mathlib.Core.Path.{_≡_, sym, _∙_}
 use mathlib.Core.Logic.{_↔_}
 use mathlib.Core.List.{List}
@@ -51,8 +51,8 @@ pub record MeetsDemand2 (S : Services) : Type 0 where
   pub accepted-exactly : (s : List ℕ) → (Bytes s × (S .check s .number ≡ 0)) ↔ StoredMesh s
   -- "the leaves, depth and volume reported are that set's."
   pub figures : (s : List ℕ) (x : StoredMesh s) → Figures (x .base) (x .cuts) (S .check s .leaves) (S .check s .deepest) (S .check s .sixfold)
-  -- Build accepts exactly what document 01 asks of its lists and its buffer; what it accepts is the base mesh that the lists say, properly marked by the
-  -- ranking, with nothing cut; and "to the byte".
+  -- Build accepts exactly what document 01 asks of its lists and its buffer; what it stores is the base mesh that the lists say, with the last two corners of
+  -- each left-handed piece exchanged, properly marked by the ranking, with nothing cut; and "to the byte".
   pub build-accepts : (job : ℕ) (coordinates : List ℤ) (corners : List ℕ) → ArgumentTypes job coordinates corners → (room : ℕ) →
       (S .build job coordinates corners room ≡ 0) ↔ BuildAccepts coordinates corners room
   pub build-stores : (job : ℕ) (coordinates : List ℤ) (corners : List ℕ) → ArgumentTypes job coordinates corners → (room : ℕ) → S .build job coordinates corners room ≡ 0 →

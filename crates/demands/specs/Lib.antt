@@ -2,6 +2,7 @@
 pub mod Demand1
 pub mod Demand2
 pub mod Demand3
+pub mod Handed
 pub mod Numbers
 pub mod Starred
 pub mod Impostors

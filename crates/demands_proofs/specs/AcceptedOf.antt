@@ -17,16 +17,17 @@ use Rattle.demands_words.specs.Words.{BaseMesh, ProperlyMarked, Shallow, Number
 use Rattle.demands_proofs.specs.Holds.{Holds}
 use Rattle.demands_proofs.specs.Counts.{vertices-within, records-within}
 use Rattle.demands_proofs.specs.Read.{written-counted, written-holds}
-use Rattle.demands_proofs.specs.HeldEntries.{held-counts, held-vertices, held-base-records, held-base-marks, held-faces, held-uses}
+use Rattle.demands_proofs.specs.HeldEntries.{held-counts, held-vertices, held-base-records, held-handed, held-base-marks, held-faces, held-uses}
 use Rattle.demands_proofs.specs.HeldCuts.{held-cuts, held-rests}
 
--- Tables that hold a numbered set of cuts of a properly marked base mesh are as rules 3 to 9 ask.
+-- Tables that hold a numbered set of cuts of a properly marked base mesh are as rules 3 to 9 and 22 ask.
 pub held-right : (t : Tables) (b : BaseMesh) (C : Cuts (b .pieces)) (N : Numbering) → Holds t b N → ProperlyMarked b → Shallow b C → VerticesNumbered b C N → RecordsNumbered b C N → N .records ≤ none → RightMesh t
 held-right t b C N h marked shallow nv nr few =
     record {
       counts = held-counts t b C N h marked nv nr;
       vertices = held-vertices t b C N h marked nv nr;
       base-records = held-base-records t b C N h marked nv nr;
+      handed = held-handed t b C N h marked nv nr;
       base-marks = held-base-marks t b C N h marked nv nr;
       faces = held-faces t b C N h marked nv nr;
       uses = held-uses t b C N h marked nv nr;

@@ -1,4 +1,4 @@
--- What build accepts it stores: the base mesh of the caller's lists is properly marked, nothing of it is cut, and the buffer holds its bytes.
+-- What build accepts it stores: the base mesh of the caller's lists, made right-handed, is properly marked, nothing of it is cut, and the buffer holds its bytes.
 -- Assumes nothing.
 use mathlib.Core.Path.{_≡_, refl, sym, ap, _∙_}
 use mathlib.Core.Bool.{false≢true}
@@ -7,21 +7,24 @@ use mathlib.Core.List.{List, [], _∷_}
 use Prim.Native.Nat.{ℕ, _+_, _*_, _<_}
 use native.Mathlib.Nat.{le-refl}
 use native.Mathlib.Omega.{arith}
-use lib.ListN.{getD}
+use lib.ListN.{length}
 use lib.IntN.{ℤ}
 use borrow.Author.Tests.{lt-ltb}
 use Rattle.stored.specs.Fitting.{U32}
 use Rattle.laws.specs.Below.{list-same}
 use Rattle.laws.specs.Pairs.{SamePair}
 use Rattle.piece_edges.specs.Edges.{lowSlot, highSlot, slots-small}
+use Rattle.laws.specs.Lists.{four-of}
+use Rattle.piece.specs.declared.Piece as Declared
 use Rattle.piece.specs.Shape.{shapeOf, mark}
 use Rattle.piece.specs.Ends.{cornerAt}
 use Rattle.stored.specs.Layout.{none, limits, meshBytes}
 use Rattle.check_meaning.specs.Accepted.{RightMarks}
 use Rattle.check_meaning.specs.Bases.{valid-marks}
-use Rattle.build_marks.specs.Marking.{plainVertex, plainPiece, markedPiece, plainRecord}
+use Rattle.build_marks.specs.Marking.{plainVertex, plainPiece, rightedPiece, markedPiece, plainRecord}
 use Rattle.build_service.specs.Build.{plainHeader, plainMesh, plainBytes, buildNumber, buildBytes}
 use Rattle.build_meaning.specs.Edges.{Different}
+use Rattle.build_meaning.specs.Righted.{righted-four, righted-sixfold, righted-positive}
 use Rattle.build_meaning.specs.Marks.{marked-valid}
 use Rattle.build_meaning.specs.Shared.{shared-face-one-mark}
 use Rattle.build_meaning.specs.Written.{Given}
@@ -30,9 +33,10 @@ use Rattle.build_meaning.specs.Output.{accepted-bytes}
 use Rattle.cuts_names.specs.Names as Names
 use Rattle.cuts_names.specs.Pieces.{Node, Side, Piece, generation, pieceAt, piece-root}
 use Rattle.cuts.specs.Sets.{There, NoneHangs}
-use Rattle.demands_words.specs.Words.{BaseMesh, named, SameBaseFace, SameBaseMark, RightPiece, ProperlyMarked, Fits, Shallow, Numbering, VerticesNumbered, RecordsNumbered, vertexOf, recordOf, written, Stores, RightSet, no-cuts, BuiltMesh, plainBase, CountsWithin, RightPlaces, RightPieces, RightTogether, AllUsed}
+use Rattle.demands_words.specs.Words.{BaseMesh, named, SameBaseFace, SameBaseMark, RightPiece, ProperlyMarked, Fits, Shallow, Numbering, VerticesNumbered, RecordsNumbered, vertexOf, recordOf, written, Stores, RightSet, no-cuts, BuiltMesh, builtBase, CountsWithin, RightPlaces, RightPieces, RightTogether, AllUsed}
 use Rattle.demands_proofs.specs.Lawful.{ends-pair}
-use Rattle.demands_proofs.specs.PlainRules.{listed-corner, same-face}
+use Rattle.demands_proofs.specs.Turned.{pieces-turned, together-turned, used-turned}
+use Rattle.demands_proofs.specs.PlainRules.{built-turned}
 use Rattle.demands_proofs.specs.BuildNumbers.{build-exactly}
 
 -- ---- no cuts
@@ -62,29 +66,24 @@ module _ (b : BaseMesh) where
 
 -- ---- the marks
 
--- The same two numbers, said in other words.
-pair-said : {x y z w x′ y′ z′ w′ : ℕ} → x ≡ x′ → y ≡ y′ → z ≡ z′ → w ≡ w′ → SamePair x y z w → SamePair x′ y′ z′ w′
-pair-said x y z w (inl h) = inl (sym x ∙ h .0 ∙ z, sym y ∙ h .1 ∙ w)
-pair-said x y z w (inr h) = inr (sym x ∙ h .0 ∙ w, sym y ∙ h .1 ∙ z)
-
 module _ (coordinates : List ℤ) (corners : List ℕ) where
   abbrev b : BaseMesh
-  b = plainBase coordinates corners
+  b = builtBase coordinates corners
 
   module _ (pieces : RightPieces b) where
-    different : (r : ℕ) → r < b .pieces → Different (plainPiece corners r)
-    different r l j k hj hk e = pieces r l .different j k hj hk (sym (listed-corner corners r j hj) ∙ e ∙ listed-corner corners r k hk)
+    -- The piece before it is marked.
+    abbrev before : ℕ → Declared.Piece
+    before r = rightedPiece coordinates (plainPiece corners r)
 
     right-piece : (r : ℕ) → r < b .pieces → RightPiece b r
     unfolding markedPiece
     right-piece r l =
-        let p = plainPiece corners r in
         let x = pieces r l in
-        let y : RightMarks (markedPiece coordinates p) = valid-marks (markedPiece coordinates p) (marked-valid coordinates p (different r l)) in
+        let y : RightMarks (markedPiece coordinates (before r)) = valid-marks (markedPiece coordinates (before r)) (marked-valid coordinates (before r) (x .different)) in
         record {
           corners = x .in-base;
           different = x .different;
-          volume = x .volume;
+          right-handed = righted-positive coordinates (plainPiece corners r) (λ e. x .volume (righted-sixfold coordinates (plainPiece corners r) ∙ e));
           marked = record { edge = y .edge; four = refl; marks = y .marks; refinement-faces = y .refinement-faces };
           flag = refl;
         }
@@ -92,15 +91,10 @@ module _ (coordinates : List ℤ) (corners : List ℕ) where
     one-mark : (r s i j : ℕ) → r < b .pieces → s < b .pieces → i < 4 → j < 4 → SameBaseFace b r i s j → SameBaseMark b r i s j
     unfolding markedPiece
     one-mark r s i j lr ls hi hj same =
-        let p = plainPiece corners r in
-        let q = plainPiece corners s in
-        let at = listed-corner corners r in
-        let to = listed-corner corners s in
-        let e = mark (shapeOf (markedPiece coordinates p)) i in
-        let f = mark (shapeOf (markedPiece coordinates q)) j in
-        pair-said (at (lowSlot e) (slots-small e .0)) (at (highSlot e) (slots-small e .1)) (to (lowSlot f) (slots-small f .0)) (to (highSlot f) (slots-small f .1))
-        (ends-pair (markedPiece coordinates p) (markedPiece coordinates q) e f
-        (shared-face-one-mark coordinates p q (different r lr) (different s ls) i j hi hj (same-face b p q r i s j at to .1 same)))
+        let p = before r in
+        let q = before s in
+        ends-pair (markedPiece coordinates p) (markedPiece coordinates q) (mark (shapeOf (markedPiece coordinates p)) i) (mark (shapeOf (markedPiece coordinates q)) j)
+        (shared-face-one-mark coordinates p q (pieces r lr .different) (pieces s ls .different) i j hi hj same)
 
     pub plain-marked : CountsWithin b → RightPlaces b → RightTogether b → AllUsed b → ProperlyMarked b
     plain-marked counts places together used =
@@ -162,15 +156,18 @@ module _ (coordinates : List ℤ) (corners : List ℕ) where
   unfolding plainVertex
   vertex-same v l = rw (lt-ltb v (b .vertices) l) refl
 
+  four : (r : ℕ) → length (plainPiece corners r .corners) ≡ 4
+  unfolding plainPiece
+  four r = refl
+
   record-same : (r : ℕ) → plainRecord coordinates corners r ≡ recordOf b plainNumbers r
-  unfolding plainRecord markedPiece plainPiece pieceAt
+  unfolding plainRecord markedPiece pieceAt
   record-same r =
-      let first : 4 * r ≡ 4 * r + 0 = omega arith in
-      let p = markedPiece coordinates (plainPiece corners r) in
+      let p = markedPiece coordinates (rightedPiece coordinates (plainPiece corners r)) in
       λ i.
       record {
         piece = record {
-          corners = getD corners (first i) 0 ∷ getD corners (4 * r + 1) 0 ∷ getD corners (4 * r + 2) 0 ∷ getD corners (4 * r + 3) 0 ∷ [];
+          corners = sym (four-of (p .corners) 0 (righted-four coordinates (plainPiece corners r) (four r))) i;
           edge = p .edge;
           marks = p .marks;
           flag = 0;
@@ -204,13 +201,17 @@ module _ (coordinates : List ℤ) (corners : List ℕ) where
 -- ---- what build accepts
 
 module _ (job : ℕ) (coordinates : List ℤ) (corners : List ℕ) (room : ℕ) (g : Given job coordinates corners) (accepted : buildNumber job coordinates corners room ≡ 0) where
-  pub build-stores : RightSet (plainBase coordinates corners) (no-cuts (plainBase coordinates corners .pieces))
-      × Stores (plainBytes job coordinates corners) job 0 (plainBase coordinates corners) (no-cuts (plainBase coordinates corners .pieces))
+  pub build-stores : RightSet (builtBase coordinates corners) (no-cuts (builtBase coordinates corners .pieces))
+      × Stores (plainBytes job coordinates corners) job 0 (builtBase coordinates corners) (no-cuts (builtBase coordinates corners .pieces))
   build-stores =
       let asked = build-exactly job coordinates corners room g .gives-0 .0 accepted in
-      let b = plainBase coordinates corners in (
-        record { marked = plain-marked coordinates corners (asked .pieces) (asked .counts) (asked .places) (asked .together) (asked .used); none-hangs = none-hangs b; fits = fits b (asked .counts); shallow = shallow b },
-        plain-stores coordinates corners job (g .fits-job) (asked .pieces),
+      let t = built-turned coordinates corners in
+      let b = builtBase coordinates corners in
+      let pieces : RightPieces b = pieces-turned t (asked .pieces) in
+      let counts : CountsWithin b = record { some-vertices = asked .counts .some-vertices; most-vertices = asked .counts .most-vertices; some-pieces = asked .counts .some-pieces; most-pieces = asked .counts .most-pieces } in
+      let places : RightPlaces b = record { on-grid = asked .places .on-grid; one-place = asked .places .one-place } in (
+        record { marked = plain-marked coordinates corners pieces counts places (together-turned t (asked .together)) (used-turned t (asked .used)); none-hangs = none-hangs b; fits = fits b counts; shallow = shallow b },
+        plain-stores coordinates corners job (g .fits-job) pieces,
       )
 
   pub built : BuiltMesh job coordinates corners (buildBytes job coordinates corners room) room

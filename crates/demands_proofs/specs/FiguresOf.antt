@@ -12,7 +12,7 @@ use borrow.Author.Tests.{not-true, not-false}
 use Rattle.laws.specs.Below.{either, or-second, sumBelow, sum-same, sum-none, sum-suc, countBelow, count-none, count-suc, greatestBelow, greatest-none, greatest-suc}
 use Rattle.grid.specs.Places.{Point, pointOf, halfwayOf}
 use Rattle.grid.specs.GridTheorems.{halfway-exactly, halfway-only}
-use Rattle.grid_volume.specs.Volume.{determinantOf, differenceOf, differencesOf, sixfoldOf}
+use Rattle.build_meaning.specs.Righted.{sixfold-four}
 use Rattle.stored.specs.declared.Vertex.{Vertex}
 use Rattle.stored.specs.Layout.{none}
 use Rattle.mesh_tables.specs.Tables as Check
@@ -156,16 +156,6 @@ base-place : (b : BaseMesh) (v : ℕ) → placeOf b (Names.base v) ≡ b .placeA
 unfolding placeOf
 base-place b v = refl
 
--- A sixfold volume goes by the four corners alone.
-sixfold-same : (f g : ℕ → Point) → ((k : ℕ) → k < 4 → f k ≡ g k) → sixfoldOf f ≡ sixfoldOf g
-unfolding sixfoldOf differencesOf
-sixfold-same f g h =
-    let e0 : f 0 ≡ g 0 = h 0 (omega arith) in
-    let e1 : f 1 ≡ g 1 = h 1 (omega arith) in
-    let e2 : f 2 ≡ g 2 = h 2 (omega arith) in
-    let e3 : f 3 ≡ g 3 = h 3 (omega arith) in
-    λ i. natAbs (determinantOf (differenceOf (e1 i) (e0 i) ∷ differenceOf (e2 i) (e0 i) ∷ differenceOf (e3 i) (e0 i) ∷ []))
-
 -- ---- the tables
 
 module _ (m : Check.Tables) (b : BaseMesh) (C : Cuts (b .pieces)) (N : Numbering) (holds : Holds m b N) (vertices : VerticesNumbered b C N) (records : RecordsNumbered b C N) (four : (r : ℕ) → r < b .pieces → length (b .shapeAt r .marks) ≡ 4) (small : N .records ≤ none) (lawful : Lawful (link m)) where
@@ -211,7 +201,7 @@ module _ (m : Check.Tables) (b : BaseMesh) (C : Cuts (b .pieces)) (N : Numbering
   pub record-sixfold : (r : ℕ) → r < allRecords m → Check.sixfoldAt (m .vertexAt) (pieceAt m r) ≡ sixfoldAt b (nodeOf t r)
   unfolding Check.sixfoldAt sixfoldAt
   record-sixfold r h =
-      sixfold-same (Check.cornerPoint (m .vertexAt) (pieceAt m r)) (λ k. pointOf (placeOf b (Pieces.pieceAt (named b) (nodeOf t r) .corner k)))
+      sixfold-four (Check.cornerPoint (m .vertexAt) (pieceAt m r)) (λ k. pointOf (placeOf b (Pieces.pieceAt (named b) (nodeOf t r) .corner k)))
       (λ k l. ap pointOf (corner-place r h k l))
 
   -- ---- the figures

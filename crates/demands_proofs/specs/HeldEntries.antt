@@ -5,6 +5,8 @@ use mathlib.Core.List.{[], _∷_}
 use Prim.Native.Nat.{ℕ, zero, suc, _≤_, _<_}
 use native.Mathlib.Omega.{arith}
 use lib.ListN.{length}
+use lib.IntN.{ℤ, pos, natAbs}
+use lib.Signed.{_≤ℤ_}
 use borrow.Author.Tests.{lt-ltb, le-ltb}
 use Rattle.laws.specs.Lists.{four-of}
 use Rattle.laws.specs.Pairs.{SamePair}
@@ -12,14 +14,16 @@ use Rattle.piece_edges.specs.Edges.{lowSlot, highSlot, slots-small}
 use Rattle.piece.specs.Shape.{Shape, shapeOf, mark}
 use Rattle.piece.specs.Ends.{cornerAt, endsOf}
 use Rattle.grid.specs.Places.{Point, pointOf}
-use Rattle.grid_volume.specs.Volume.{differencesOf, sixfoldOf}
+use Rattle.grid_volume.specs.Volume.{signedOf, sixfoldOf}
+use Rattle.grid_volume.specs.Formal.{same-corners as signed-four}
+use Rattle.grid_volume.specs.Handed.{not-negative, positive-solid, positive-not-negative}
 use Rattle.stored.specs.declared.Vertex.{Vertex}
 use Rattle.stored.specs.declared.Record.{Record}
 use Rattle.stored.specs.Layout.{none}
 use Rattle.mesh_tables.specs.Tables as Check
-use Rattle.mesh_tables.specs.Tables.{Tables, baseVertices, baseRecords, sixfoldAt}
+use Rattle.mesh_tables.specs.Tables.{Tables, baseVertices, baseRecords, signedAt, sixfoldAt}
 use Rattle.check_meaning.specs.Accepted as Accepted
-use Rattle.check_meaning.specs.Accepted.{RightCounts, RightVertices, RightBaseRecords, RightBaseMarks, RightFaces, RightUses, Made, pointAt, parentP, parentQ, firstChild, markedEnds}
+use Rattle.check_meaning.specs.Accepted.{RightCounts, RightVertices, RightBaseRecords, RightHanded, RightBaseMarks, RightFaces, RightUses, Made, pointAt, parentP, parentQ, firstChild, markedEnds}
 use Rattle.build_meaning.specs.Edges.{ends-same}
 use Rattle.cuts_names.specs.Names as Names
 use Rattle.cuts_names.specs.Names.{mid}
@@ -29,11 +33,6 @@ use Rattle.demands_words.specs.Words as Base
 use Rattle.demands_words.specs.Words.{BaseMesh, named, ProperlyMarked, Numbering, VerticesNumbered, RecordsNumbered, recordOf}
 use Rattle.demands_proofs.specs.Holds.{Holds}
 use Rattle.demands_proofs.specs.Read.{record-valid}
-
--- The sixfold volume is one of four corners.
-sixfold-four : (f g : ℕ → Point) → ((k : ℕ) → k < 4 → f k ≡ g k) → sixfoldOf f ≡ sixfoldOf g
-unfolding sixfoldOf differencesOf
-sixfold-four f g h = rw (h 0 (omega arith), h 1 (omega arith), h 2 (omega arith), h 3 (omega arith))
 
 -- The four marks of a validly marked shape are all its marks.
 four-marks : (s : Shape) → length (s .marks) ≡ 4 → record { edge = s .edge; marks = mark s 0 ∷ mark s 1 ∷ mark s 2 ∷ mark s 3 ∷ []; flag = s .flag } ≡ s
@@ -177,25 +176,40 @@ module _ (t : Tables) (b : BaseMesh) (C : Cuts (b .pieces)) (N : Numbering) (h :
           one-pair = one-pair;
         }
 
-    -- ---- 5 and 6
+    -- ---- 5
+
+    -- A base record has its piece's signed value.
+    base-signed : (r : ℕ) → r < b .pieces → signedAt (t .vertexAt) (Check.pieceAt t r) ≡ signedOf (λ k. Base.pointAt b (b .cornerAt r k))
+    unfolding signedAt
+    base-signed r l =
+        signed-four (Check.cornerPoint (t .vertexAt) (Check.pieceAt t r)) (λ k. Base.pointAt b (b .cornerAt r k))
+        (λ k m. ap (pointAt t) (base-corner r l k m) ∙ base-point (b .cornerAt r k) (marked .pieces r l .corners k m))
 
     base-record : (r : ℕ) → r < b .pieces → Accepted.BaseRecord t r
-    unfolding sixfoldAt
+    unfolding sixfoldAt signedAt sixfoldOf
     base-record r l =
         let p = marked .pieces r l in
         let there = base-there r l in
-        let volume : sixfoldAt (t .vertexAt) (Check.pieceAt t r) ≡ sixfoldOf (λ k. Base.pointAt b (b .cornerAt r k)) =
-        sixfold-four _ _ (λ k m. ap (pointAt t) (base-corner r l k m) ∙ base-point (b .cornerAt r k) (p .corners k m)) in
         record {
           different = λ j k lj lk e. p .different j k lj lk (sym (base-corner r l j lj) ∙ e ∙ base-corner r l k lk);
           in-base = λ k m. omega (arith, base-corner r l k m, p .corners k m, h .base-vertices);
-          volume = λ e. p .volume (sym volume ∙ e);
+          volume = λ e. positive-solid _ (p .right-handed) (ap natAbs (sym (base-signed r l)) ∙ e);
           generation = generation-at r there ∙ ap generation (nr .base-node r l);
           flag = ap (λ (s : Shape). s .flag) (base-shape r l) ∙ p .flag;
         }
 
     pub held-base-records : RightBaseRecords t
     held-base-records r l = base-record r (base-record-in r l)
+
+    -- ---- 22
+
+    pub held-handed : RightHanded t
+    held-handed r l =
+        let k = base-record-in r l in
+        let z = signedOf (λ k. Base.pointAt b (b .cornerAt r k)) in
+        subst (λ (x : ℤ). pos 0 ≤ℤ x) (sym (base-signed r k)) (not-negative z .0 (positive-not-negative z (marked .pieces r k .right-handed)))
+
+    -- ---- 6
 
     pub held-base-marks : RightBaseMarks t
     held-base-marks r l =

@@ -13,6 +13,7 @@ pub mod HoldsGrown
 pub mod OneSet
 pub mod MarkedBase
 pub mod Exact
+pub mod Handed
 pub mod FiguresOf
 pub mod Counts
 pub mod Read
@@ -24,10 +25,12 @@ pub mod Hanging
 pub mod PassStages
 pub mod Closing
 pub mod RefineNumbers
+pub mod Turned
 pub mod PlainRules
 pub mod GivenTypes
 pub mod BuildNumbers
 pub mod BuildStores
+pub mod AsGiven
 pub mod FromStored
 pub mod Inside
 pub mod StoredFigures

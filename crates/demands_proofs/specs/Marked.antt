@@ -2,8 +2,10 @@
 -- Assumes nothing.
 use Prim.Native.Nat.{ℕ, _<_}
 use Rattle.piece.specs.Shape.{shapeOf, mark}
+use Rattle.grid_volume.specs.Volume.{sixfoldOf}
+use Rattle.grid_volume.specs.Handed.{positive, not-negative}
 use Rattle.mesh_tables.specs.Tables as Check
-use Rattle.mesh_tables.specs.Tables.{baseRecords, pieceAt, sixfoldAt}
+use Rattle.mesh_tables.specs.Tables.{baseRecords, pieceAt, signedAt, sixfoldAt}
 use Rattle.check_meaning.specs.Accepted.{RightMesh}
 use Rattle.check_meaning.specs.Cuts.{Four}
 use Rattle.demands_words.specs.Words.{RightPiece, ProperlyMarked}
@@ -12,14 +14,14 @@ use Rattle.demands_proofs.specs.BaseOf.{baseOf}
 
 module _ (m : Check.Tables) (a : RightMesh m) (four : (n : ℕ) → Four (pieceAt m n)) where
   right-piece : (r : ℕ) → r < baseRecords m → RightPiece (baseOf m) r
-  unfolding sixfoldAt
+  unfolding sixfoldAt signedAt sixfoldOf
   right-piece r h =
       let x = a .base-records r h in
       let y = a .base-marks r h in
       record {
         corners = x .in-base;
         different = x .different;
-        volume = x .volume;
+        right-handed = let z = signedAt (m .vertexAt) (pieceAt m r) in positive z (x .volume) (not-negative z .1 (a .handed r h));
         marked = record { edge = y .edge; four = four r .marks; marks = y .marks; refinement-faces = y .refinement-faces };
         flag = x .flag;
       }

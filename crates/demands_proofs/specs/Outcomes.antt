@@ -1,5 +1,5 @@
 -- The proofs for demand 1's page: which outcomes check, build, refine and the listing have.
-use mathlib.Core.Path.{_≡_, refl, sym, ap, ap₂, _∙_}
+use mathlib.Core.Path.{_≡_, refl, sym, ap, ap₂, _∙_, subst}
 use mathlib.Core.Bool.{Bool, true, false, cond}
 use mathlib.Core.Logic.{_≢_, _⊎_, inl, inr, ⊎-elim}
 use mathlib.Core.List.{List, [], _∷_, _++_, append-assoc}
@@ -18,23 +18,25 @@ use Rattle.stored.specs.Fitting.{HeaderFits, header-fits, round-fits}
 use Rattle.stored.specs.Entries.{header-wide, vertex-wide, record-wide, header-again}
 use Rattle.check_refusals.specs.declared.Report.{Report}
 use Rattle.mesh_tables.specs.Tables.{Tables, tablesOf, allRecords, isLeaf, pieceAt}
-use Rattle.check_refusals.specs.Check.{checkNumber, accepted, refusedWith, hangingReport, reportOf, checkOf}
+use Rattle.check_refusals.specs.Check.{tableRows, rows, checkNumber, accepted, refusedWith, hangingReport, reportOf, checkOf}
 use Rattle.check_refusals.specs.Bounded.{Bounded, bounded}
-use Rattle.check_refusals.specs.Rows.{check-small, report-number}
+use Rattle.check_refusals.specs.Rows.{report-number}
 use Rattle.check_meaning.specs.Exactly.{accepts-exactly}
 use Rattle.build_marks.specs.Marking.{plainVertex, plainRecord}
 use Rattle.build_service.specs.Build.{plainHeader, plainMesh, plainBytes, buildRows, buildNumber, buildBytes}
 use Rattle.build_meaning.specs.Written.{Given}
 use Rattle.build_meaning.specs.Accepts.{passed, build-fits, check-accepts}
 use Rattle.build_meaning.specs.Output as Build
+use Rattle.refine_selection.specs.Selected.{selectionRows, roundRow}
 use Rattle.refine_pass.specs.Law.{within}
-use Rattle.refine_service.specs.Refine.{closed, resultOf, resultRows, refineNumber, refineBytes}
+use Rattle.refine_service.specs.Refine.{closed, resultOf, refineSelectionRows, resultRows, refineNumber, refineBytes}
 use Rattle.refine_service.specs.Storing.{laterNumber, storedNumber, refine-none}
 use Rattle.refine_meaning.specs.Answer as Refine
 use Rattle.refine_meaning.specs.Answer.{job-kept, base-vertices-kept, base-records-kept}
 use Rattle.list_text.specs.Text.{lineFeed, figures}
 use Rattle.list_lines.specs.Lines.{refusedLine, countFigures, checkFigures, headingLine, cornerFigures, edgeFigures, leafLine}
 use Rattle.list_service.specs.Listing.{leafLines, meshLines, judgedLines, linesOf}
+use Rattle.demands_words.specs.Words.{checkNumbers}
 
 -- A number is 0 or it is not.
 pub zero-or-not : (n : ℕ) → (n ≡ 0) ⊎ (n ≢ 0)
@@ -43,8 +45,9 @@ zero-or-not n = ⊎-elim (λ t. inl (eqb-true n 0 t)) (λ f. inr (eqb-false n 0 
 -- ---- check
 
 module _ (s : List ℕ) where
-  pub check-number : checkOf s .number ≤ 10
-  check-number = omega (arith, report-number s, check-small s)
+  pub check-number : OneOf (0 ∷ checkNumbers) (checkOf s .number)
+  unfolding checkNumber rows tableRows
+  check-number = subst (OneOf (0 ∷ checkNumbers)) (sym (report-number s)) (one-of-them (rows s))
 
   -- Leaves, depth and volume of a refusal.
   pub refused-figures : checkOf s .number ≢ 0 → (checkOf s .leaves ≡ 0) × (checkOf s .deepest ≡ 0) × (checkOf s .sixfold ≡ 0)
@@ -158,6 +161,11 @@ module _ (mesh selection : List ℕ) (room : ℕ) where
 
   abbrev result : Mesh
   result = resultOf (closed mesh selection)
+
+  -- "Refine gives 1 to 20", and 22 with check.
+  pub refine-number : OneOf (0 ∷ (checkNumbers ++ (11 ∷ 12 ∷ 13 ∷ 14 ∷ 15 ∷ 16 ∷ 17 ∷ 18 ∷ 19 ∷ 20 ∷ []))) (refineNumber mesh selection room)
+  unfolding refineNumber rows tableRows refineSelectionRows selectionRows roundRow resultRows
+  refine-number = one-of-them _
 
   pub refine-refused : refineNumber mesh selection room ≢ 0 → refineBytes mesh selection room ≡ replicate room 0
   refine-refused n = Refine.refused-bytes mesh selection room (ne-eqb number 0 n)

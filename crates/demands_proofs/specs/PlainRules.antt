@@ -13,25 +13,27 @@ use Rattle.laws.specs.Below.{either}
 use Rattle.piece.specs.declared.Piece.{Piece}
 use Rattle.piece.specs.Ends.{cornerAt}
 use Rattle.grid.specs.Places.{Point, pointOf}
-use Rattle.grid_volume.specs.Volume.{differencesOf, sixfoldOf}
+use Rattle.grid_volume.specs.Volume.{sixfoldOf}
 use Rattle.stored.specs.declared.Header.{Header}
 use Rattle.stored.specs.declared.Vertex.{Vertex}
 use Rattle.stored.specs.declared.Record.{Record}
 use Rattle.stored.specs.Layout.{none, storedNone, orNone, limits}
 use Rattle.mesh_tables.specs.Tables as Check
 use Rattle.mesh_tables.specs.Tables.{baseVertices, allVertices, baseRecords, pieceAt, sixfoldAt}
-use Rattle.check_refusals.specs.Refusals.{wrongCounts, badVertices, badBaseRecords, badBaseFaces, unusedVertices}
+use Rattle.check_refusals.specs.Refusals.{wrongCounts, badVertices, badBaseFaces, unusedVertices}
 use Rattle.check_meaning.specs.Tests.{Fails, reads, equal, not-below, not-fails, or-fails}
 use Rattle.check_meaning.specs.Accepted as Accepted
 use Rattle.check_meaning.specs.Accepted.{OnGrid, markedEnds, RightBaseRecords}
 use Rattle.check_meaning.specs.Vertices.{rule4-holds}
-use Rattle.check_meaning.specs.Bases.{rule5-holds}
 use Rattle.check_meaning.specs.Faces.{rule7-holds, rule8-holds}
-use Rattle.build_marks.specs.Marking.{plainVertex, plainPiece, markedPiece, plainRecord}
-use Rattle.build_service.specs.Build.{notWhole, plainHeader, plainBytes}
-use Rattle.build_meaning.specs.Written.{Given, CountsFit, written, plain-corner-read, plain-length, header-read, vertex-read, record-read}
+use Rattle.build_marks.specs.Marking.{plainPlace, plainVertex, plainPiece, plainPoint, rightedPiece, markedPiece, plainRecord}
+use Rattle.build_service.specs.Build.{notWhole, plainHeader, plainBytes, badGivenPieces}
+use Rattle.build_meaning.specs.Righted.{sixfold-four, slotGiven, slot-small, slot-twice, given-corner, righted-sixfold}
+use Rattle.build_meaning.specs.Written.{Given, CountsFit, written, stored-corner, plain-length, header-read, vertex-read, record-read}
+use Rattle.build_meaning.specs.Accepts.{given-holds}
 use Rattle.build_meaning.specs.Shared.{shared-face-one-mark}
-use Rattle.demands_words.specs.Words.{BaseMesh, pointAt, BaseCornerOf, OnBaseFace, SameBaseCorners, SameBaseFace, plainBase, Whole, CountsWithin, RightPlaces, RightPieces, RightTogether, AllUsed, Roomy}
+use Rattle.demands_words.specs.Words.{BaseMesh, pointAt, BaseCornerOf, OnBaseFace, SameBaseCorners, SameBaseFace, plainBase, builtBase, Whole, CountsWithin, RightPlaces, RightPieces, RightTogether, AllUsed, Roomy}
+use Rattle.demands_proofs.specs.Turned.{Turned, turned-back, pieces-turned, together-turned, used-turned}
 
 -- ---- 21 and 3: the lists' lengths
 
@@ -72,19 +74,22 @@ listed-corner corners r (suc (suc zero)) l = refl
 listed-corner corners r (suc (suc (suc zero))) l = refl
 listed-corner corners r (suc (suc (suc (suc k)))) l = absurd (omega arith)
 
--- A number that is read as a small one was stored as it is, and a small one is read as it is.
-read-small : (c n : ℕ) → n ≤ 65535 → orNone c < n → c < n
-unfolding orNone
-read-small c n small h =
-    ⊎-elim
-    (λ t. let big : none < n = rw t at h in absurd (omega arith))
-    (λ f. rw f at h)
-    (either (eqb c storedNone))
-
--- The sixfold volume goes by four points.
-sixfold-same : (f g : ℕ → Point) → ((k : ℕ) → k < 4 → f k ≡ g k) → sixfoldOf f ≡ sixfoldOf g
-unfolding sixfoldOf differencesOf
-sixfold-same f g h = rw (h 0 (omega arith), h 1 (omega arith), h 2 (omega arith), h 3 (omega arith))
+-- What is built has the corners that are listed, in other slots.
+pub built-turned : (coordinates : List ℤ) (corners : List ℕ) → Turned (plainBase coordinates corners) (builtBase coordinates corners)
+built-turned coordinates corners =
+    record {
+      vertices = refl;
+      pieces = refl;
+      slot = λ r. slotGiven coordinates (plainPiece corners r);
+      small = λ r. slot-small coordinates (plainPiece corners r);
+      twice = λ r. slot-twice coordinates (plainPiece corners r);
+      corner = λ r k l. sym (listed-corner corners r k l) ∙ given-corner coordinates (plainPiece corners r) k l;
+      sixfold = λ r. listed-sixfold coordinates corners r ∙ sym (righted-sixfold coordinates (plainPiece corners r));
+    }
+  where
+    listed-sixfold : (coordinates : List ℤ) (corners : List ℕ) (r : ℕ) →
+        sixfoldOf (λ k. pointAt (plainBase coordinates corners) (plainBase coordinates corners .cornerAt r k)) ≡ sixfoldOf (plainPoint coordinates (plainPiece corners r))
+    listed-sixfold coordinates corners r = sixfold-four _ _ (λ k l. ap (λ (v : ℕ). pointOf (plainPlace coordinates v)) (sym (listed-corner corners r k l)))
 
 -- A piece with the corners of piece r has its corners and its faces.
 module _ (b : BaseMesh) where
@@ -113,8 +118,12 @@ module _ (job : ℕ) (coordinates : List ℤ) (corners : List ℕ) (g : Given jo
   abbrev m : Check.Tables
   m = written job coordinates corners
 
+  -- As it is listed, and as it is built.
   abbrev b : BaseMesh
   b = plainBase coordinates corners
+
+  abbrev built : BaseMesh
+  built = builtBase coordinates corners
 
   fit : CountsFit coordinates corners
   fit = record { vertices = omega (arith, c .most-vertices); records = omega (arith, c .most-pieces) }
@@ -170,95 +179,61 @@ module _ (job : ℕ) (coordinates : List ℤ) (corners : List ℕ) (g : Given jo
 
   -- ---- 5
 
-  -- All corners of all pieces are in the base.
-  abbrev AllInBase : Type 0
-  AllInBase = (r : ℕ) → r < b .pieces → (k : ℕ) → k < 4 → b .cornerAt r k < b .vertices
-
-  -- Then no corner is 65,535, which would be read as none, and check reads the plain pieces.
-  corner-named : AllInBase → (r : ℕ) → r < b .pieces → (k : ℕ) → getD (plainRecord coordinates corners r .piece .corners) k 0 < storedNone
-  unfolding plainRecord markedPiece plainPiece
-  corner-named inside r l k =
-      ⊎-elim
-      (λ t. let s = ltb-true k 4 t in omega (arith, listed-corner corners r k s, inside r l k s, c .most-vertices))
-      (λ f. past (ltb-false k 4 f))
-      (either (ltb k 4))
-    where
-      past : 4 ≤ k → getD (plainPiece corners r .corners) k 0 < storedNone
-      past h = rw (List·getD-eq-default (plainPiece corners r .corners) 0 h) (omega arith)
-
-  pub piece-read : AllInBase → (r : ℕ) → r < b .pieces → pieceAt m r ≡ markedPiece coordinates (plainPiece corners r)
-  unfolding plainRecord
-  piece-read inside r l = ap (λ (x : Record). x .piece) (record-read job coordinates corners g fit (corner-named inside) r l)
-
-  pub corners-read : AllInBase → (r : ℕ) → r < b .pieces → Agrees b (pieceAt m r) r
-  unfolding markedPiece
-  corners-read inside r l k s = ap (λ (p : Piece). cornerAt p k) (piece-read inside r l) ∙ listed-corner corners r k s
-
-  volume-read : (inside : AllInBase) (r : ℕ) → r < b .pieces → sixfoldAt (m .vertexAt) (pieceAt m r) ≡ sixfoldOf (λ k. pointAt b (b .cornerAt r k))
-  unfolding sixfoldAt
-  volume-read inside r l =
-      sixfold-same (λ k. Accepted.pointAt m (cornerAt (pieceAt m r) k)) (λ k. pointAt b (b .cornerAt r k))
-      (λ k s. ap (Accepted.pointAt m) (corners-read inside r l k s) ∙ point (b .cornerAt r k) (inside r l k s))
-
-  -- What check asks of its base records has all corners in the base.
-  inside-of : RightBaseRecords m → AllInBase
-  unfolding plainRecord markedPiece
-  inside-of a r l k s =
-      let h : cornerAt (pieceAt m r) k < b .vertices = omega (arith, a r (omega (arith, base-records)) .in-base k s, base-vertices) in
-      let e : cornerAt (pieceAt m r) k ≡ orNone (b .cornerAt r k) = plain-corner-read job coordinates corners g fit r l k s ∙ ap orNone (listed-corner corners r k s) in
-      read-small (b .cornerAt r k) (b .vertices) (omega (arith, c .most-vertices)) (subst (λ (n : ℕ). n < b .vertices) e h)
-
-  pub pieces-exactly : Fails (badBaseRecords m) (RightPieces b)
-  unfolding markedPiece
+  pub pieces-exactly : Fails (badGivenPieces coordinates corners) (RightPieces b)
+  unfolding sixfoldAt plainVertex plainPiece
   pieces-exactly =
-      reads (rule5-holds m)
+      reads (given-holds coordinates corners)
       (λ a r l.
-      let inside = inside-of a in
-      let x = a r (omega (arith, base-records)) in
-      let at = corners-read inside r l in
+      let x = a r l in
+      let at = listed-corner corners r in
       record {
         different = λ j k hj hk e. x .different j k hj hk (at j hj ∙ e ∙ sym (at k hk));
-        in-base = inside r l;
-        volume = λ e. x .volume (volume-read inside r l ∙ e);
+        in-base = λ k s. omega (arith, at k s, x .in-base k s);
+        volume = λ e. x .volume (volume r ∙ e);
       })
-      (λ a n h.
-      let inside : AllInBase = λ r l. a r l .in-base in
-      let l : n < b .pieces = omega (arith, base-records) in
+      (λ a n l.
       let x = a n l in
-      let at = corners-read inside n l in
+      let at = listed-corner corners n in
       record {
         different = λ j k hj hk e. x .different j k hj hk (sym (at j hj) ∙ e ∙ at k hk);
-        in-base = λ k s. omega (arith, at k s, inside n l k s, base-vertices);
-        volume = λ e. x .volume (sym (volume-read inside n l) ∙ e);
-        generation = ap (λ (p : Piece). p .generation) (piece-read inside n l);
-        flag = ap (λ (p : Piece). p .flag) (piece-read inside n l);
+        in-base = λ k s. omega (arith, at k s, x .in-base k s);
+        volume = λ e. x .volume (sym (volume n) ∙ e);
+        generation = refl;
+        flag = refl;
       })
+    where
+      volume : (r : ℕ) → sixfoldOf (plainPoint coordinates (plainPiece corners r)) ≡ sixfoldOf (λ k. pointAt b (b .cornerAt r k))
+      volume r = sixfold-four _ _ (λ k l. ap (λ (v : ℕ). pointOf (plainPlace coordinates v)) (listed-corner corners r k l))
 
   -- ---- 7 and 8
 
   module _ (a : RightPieces b) where
-    inside : AllInBase
-    inside r l = a r l .in-base
+    right-built : RightPieces built
+    right-built = pieces-turned (built-turned coordinates corners) a
 
-    agrees : (r : ℕ) → r < b .pieces → Agrees b (pieceAt m r) r
-    agrees = corners-read inside
+    -- No corner is 65,535, which would be read as none, and check reads the built pieces.
+    corner-named : (r : ℕ) → r < b .pieces → (k : ℕ) → getD (plainRecord coordinates corners r .piece .corners) k 0 < storedNone
+    corner-named r l = stored-corner coordinates corners r (λ x. x < storedNone) (omega arith) (λ k s. omega (arith, listed-corner corners r k s, a r l .in-base k s, c .most-vertices))
+
+    piece-read : (r : ℕ) → r < b .pieces → pieceAt m r ≡ markedPiece coordinates (rightedPiece coordinates (plainPiece corners r))
+    unfolding plainRecord
+    piece-read r l = ap (λ (x : Record). x .piece) (record-read job coordinates corners g fit corner-named r l)
+
+    agrees : (r : ℕ) → r < b .pieces → Agrees built (pieceAt m r) r
+    unfolding markedPiece
+    agrees r l k s = ap (λ (p : Piece). cornerAt p k) (piece-read r l)
 
     -- "The last clause of 7 can't be broken."
-    marks-agree : (r n i j : ℕ) → r < b .pieces → n < b .pieces → i < 4 → j < 4 → SameBaseFace b r i n j → markedEnds (pieceAt m r) i ≡ markedEnds (pieceAt m n) j
+    marks-agree : (r n i j : ℕ) → r < b .pieces → n < b .pieces → i < 4 → j < 4 → SameBaseFace built r i n j → markedEnds (pieceAt m r) i ≡ markedEnds (pieceAt m n) j
     marks-agree r n i j lr ln hi hj same =
-        let p = plainPiece corners r in
-        let q = plainPiece corners n in
-        let at = listed-corner corners r in
-        let to = listed-corner corners n in
-        ap (λ (x : Piece). markedEnds x i) (piece-read inside r lr)
-        ∙ shared-face-one-mark coordinates p q
-        (λ j k hj hk e. a r lr .different j k hj hk (sym (at j hj) ∙ e ∙ at k hk))
-        (λ j k hj hk e. a n ln .different j k hj hk (sym (to j hj) ∙ e ∙ to k hk))
-        i j hi hj (same-face b p q r i n j at to .1 same)
-        ∙ sym (ap (λ (x : Piece). markedEnds x j) (piece-read inside n ln))
+        let p = rightedPiece coordinates (plainPiece corners r) in
+        let q = rightedPiece coordinates (plainPiece corners n) in
+        ap (λ (x : Piece). markedEnds x i) (piece-read r lr)
+        ∙ shared-face-one-mark coordinates p q (right-built r lr .different) (right-built n ln .different) i j hi hj same
+        ∙ sym (ap (λ (x : Piece). markedEnds x j) (piece-read n ln))
 
-    pub together-exactly : Fails (badBaseFaces m) (RightTogether b)
-    together-exactly =
+    built-together : Fails (badBaseFaces m) (RightTogether built)
+    built-together =
         reads (rule7-holds m)
         (λ f.
         record {
@@ -267,10 +242,10 @@ module _ (job : ℕ) (coordinates : List ℤ) (corners : List ℕ) (g : Given jo
               let on = agrees s (omega arith) in
               let to = agrees n hn in
               f .in-two r s n i j k hr hs (omega (arith, base-records)) hi hj hk
-              (same-face b (pieceAt m r) (pieceAt m n) r i n k at to .1 x)
-              (same-face b (pieceAt m s) (pieceAt m n) s j n k on to .1 y);
+              (same-face built (pieceAt m r) (pieceAt m n) r i n k at to .1 x)
+              (same-face built (pieceAt m s) (pieceAt m n) s j n k on to .1 y);
           alone = λ r s h hs x.
-              f .different r s h (omega (arith, base-records)) (same-corners b (pieceAt m r) (pieceAt m s) r s (agrees r (omega arith)) (agrees s hs) .1 x);
+              f .different r s h (omega (arith, base-records)) (same-corners built (pieceAt m r) (pieceAt m s) r s (agrees r (omega arith)) (agrees s hs) .1 x);
         })
         (λ f.
         record {
@@ -280,27 +255,34 @@ module _ (job : ℕ) (coordinates : List ℤ) (corners : List ℕ) (g : Given jo
               let on = agrees s (omega arith) in
               let to = agrees n hn in
               f .in-two r s n i j k hr hs hn hi hj hk
-              (same-face b (pieceAt m r) (pieceAt m n) r i n k at to .0 x)
-              (same-face b (pieceAt m s) (pieceAt m n) s j n k on to .0 y);
+              (same-face built (pieceAt m r) (pieceAt m n) r i n k at to .0 x)
+              (same-face built (pieceAt m s) (pieceAt m n) s j n k on to .0 y);
           different = λ r n h l x.
               let hn : n < b .pieces = omega (arith, base-records) in
-              f .alone r n h hn (same-corners b (pieceAt m r) (pieceAt m n) r n (agrees r (omega arith)) (agrees n hn) .0 x);
+              f .alone r n h hn (same-corners built (pieceAt m r) (pieceAt m n) r n (agrees r (omega arith)) (agrees n hn) .0 x);
           one-mark = λ r n i j h l hi hj x.
               let hn : n < b .pieces = omega (arith, base-records) in
               let hr : r < b .pieces = omega arith in
-              marks-agree r n i j hr hn hi hj (same-face b (pieceAt m r) (pieceAt m n) r i n j (agrees r hr) (agrees n hn) .0 x);
+              marks-agree r n i j hr hn hi hj (same-face built (pieceAt m r) (pieceAt m n) r i n j (agrees r hr) (agrees n hn) .0 x);
         })
 
-    pub used-exactly : Fails (unusedVertices m) (AllUsed b)
-    used-exactly =
+    built-used : Fails (unusedVertices m) (AllUsed built)
+    built-used =
         reads (rule8-holds m)
         (λ u v l.
         let (r, h, x) = u v (omega (arith, base-vertices)) in
         let k : r < b .pieces = omega (arith, base-records) in
-        (r, k, corner-of b (pieceAt m r) r (agrees r k) v .0 x))
+        (r, k, corner-of built (pieceAt m r) r (agrees r k) v .0 x))
         (λ u v l.
         let (r, h, x) = u v (omega (arith, base-vertices)) in
-        (r, omega (arith, base-records), corner-of b (pieceAt m r) r (agrees r h) v .1 x))
+        (r, omega (arith, base-records), corner-of built (pieceAt m r) r (agrees r h) v .1 x))
+
+    -- 7 and 8 "don't see the exchange".
+    pub together-exactly : Fails (badBaseFaces m) (RightTogether b)
+    together-exactly = let t = built-turned coordinates corners in reads built-together (together-turned (turned-back t)) (together-turned t)
+
+    pub used-exactly : Fails (unusedVertices m) (AllUsed b)
+    used-exactly = let t = built-turned coordinates corners in reads built-used (used-turned (turned-back t)) (used-turned t)
 
   -- ---- 20
 

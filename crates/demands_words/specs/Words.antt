@@ -10,7 +10,8 @@
 --   one. `Leaf`: there, and not cut. `CutsWithin C X`: every cut of C is one of X. `NoneHangs`: no edge of a leaf has its midpoint made by a cut
 --   (`cuts/specs/Sets`). `CutList`, `LeafList`, `MadeList`: a list of all cuts, leaves, made vertices, each once (`cuts/specs/Count`).
 -- - `OnGrid`: a multiple of 32 from -32,736 to 32,736; `EdgeOf i e`: e is an edge of the face without slot i (`check_meaning/specs/Accepted`). `Midpoint`: its
---   double is the sum, in each coordinate (`grid/specs/Corners`); `sixfoldOf`: the absolute determinant (`grid_volume/specs/Volume`) (on demand 3's page `markedAt`: a
+--   double is the sum, in each coordinate (`grid/specs/Corners`); `signedOf`: the determinant of corners 1, 2, 3 less corner 0, and `sixfoldOf`: its absolute value
+--   (`grid_volume/specs/Volume`) (on demand 3's page `markedAt`: a
 --   face's mark, named by its midpoint, and `SameFace`: the same three corners, over names; `cuts_names/specs/Base`).
 -- - `meshBytes`, `selectionOf`, `namedIn`: document 01's layout of a mesh's and a selection's bytes (`stored/specs/Layout`).
 use mathlib.Core.Path.{_≡_}
@@ -21,14 +22,14 @@ use Prim.Native.Nat.{ℕ, _≤_, _<_, _+_, _*_, _/_}
 use lib.ListN.{length, getD}
 use lib.Dec.{ltb}
 use lib.IntN.{ℤ, pos, negsuc}
-use lib.Signed.{_≤ℤ_}
+use lib.Signed.{_≤ℤ_, _<ℤ_}
 use Rattle.laws.specs.Lists.{zeroPast}
 use Rattle.laws.specs.Pairs.{SamePair}
 use Rattle.piece_edges.specs.Edges.{lowSlot, highSlot}
 use Rattle.piece.specs.Shape.{Shape, mark, lastGeneration, shapeOf}
 use Rattle.grid.specs.declared.Place.{Place}
 use Rattle.grid.specs.Places.{Point, pointOf, halfwayOf}
-use Rattle.grid_volume.specs.Volume.{sixfoldOf}
+use Rattle.grid_volume.specs.Volume.{signedOf, leftHanded, sixfoldOf}
 use Rattle.check_meaning.specs.Accepted.{OnGrid, EdgeOf}
 use Rattle.cuts_names.specs.Names as Names
 use Rattle.cuts_names.specs.Names.{Name, mid}
@@ -43,7 +44,13 @@ use Rattle.stored.specs.declared.Record.{Record}
 use Rattle.stored.specs.Layout.{none, Mesh, meshBytes, limits, meshLength, lastRound, selectionOf, namedIn, byteAt, u16At}
 use Rattle.cuts.specs.Sets.{Cuts, There, NoneHangs, Leaf, CutsWithin}
 use Rattle.cuts.specs.Count.{CutList, MadeList, LeafList}
-use Rattle.build_marks.specs.Marking.{plainPlace, plainPiece, markedPiece}
+use Rattle.build_marks.specs.Marking.{plainPlace, plainPiece, rightedPiece, markedPiece}
+
+-- ======== demand 1: the numbers of check's refusals, in the order in which they are tried
+
+-- "1 to 10", and document 02's 22 "after 5 and before 6".
+abbrev pub checkNumbers : List ℕ
+checkNumbers = 1 ∷ 2 ∷ 3 ∷ 4 ∷ 5 ∷ 22 ∷ 6 ∷ 7 ∷ 8 ∷ 9 ∷ 10 ∷ []
 
 -- ======== demand 2: a base mesh, properly marked
 
@@ -97,8 +104,8 @@ pub record RightPiece (b : BaseMesh) (r : ℕ) : Type 0 where
   -- its corners are vertices, and different ones
   pub corners : (k : ℕ) → k < 4 → b .cornerAt r k < b .vertices
   pub different : (j k : ℕ) → j < 4 → k < 4 → b .cornerAt r j ≡ b .cornerAt r k → j ≡ k
-  -- it is not flat
-  pub volume : sixfoldOf (λ k. pointAt b (b .cornerAt r k)) ≢ 0
+  -- "Demand 2's base mesh is then right-handed": its signed value is positive, so that it is not flat either
+  pub right-handed : pos 0 <ℤ signedOf (λ k. pointAt b (b .cornerAt r k))
   -- it is validly marked, and its flag is not set
   pub marked : ValidlyMarked (b .shapeAt r)
   pub flag : b .shapeAt r .flag ≡ 0
@@ -306,6 +313,10 @@ unfoldable pub placeOf : BaseMesh → Name → Place
 placeOf b (Names.base v) = b .placeAt v
 placeOf b (Names.made x y) = halfwayOf (placeOf b x) (placeOf b y)
 
+-- Document 02, "the signed determinant": of the piece at a node.
+unfoldable pub signedAt : BaseMesh → Node → ℤ
+signedAt b n = signedOf (λ k. pointOf (placeOf b (pieceAt (named b) n .corner k)))
+
 -- The sixfold volume of the piece at a node.
 unfoldable pub sixfoldAt : BaseMesh → Node → ℕ
 sixfoldAt b n = sixfoldOf (λ k. pointOf (placeOf b (pieceAt (named b) n .corner k)))
@@ -329,7 +340,7 @@ pub record Figures (b : BaseMesh) (C : Cuts (b .pieces)) (leaves deepest sixfold
 
 -- ======== demand 2: the base mesh that build's two lists say
 
--- Three coordinates a vertex and four corners a piece, as they are listed. "The refinement edge is the first-ranked of the piece, a face's mark the
+-- Three coordinates a vertex and four corners a piece, as they are listed: what build's rules judge. "The refinement edge is the first-ranked of the piece, a face's mark the
 -- first-ranked of the face. Flags are 0."
 abbrev pub plainBase : List ℤ → List ℕ → BaseMesh
 plainBase coordinates corners =
@@ -340,6 +351,34 @@ plainBase coordinates corners =
       shapeAt = λ r. shapeOf (markedPiece coordinates (plainPiece corners r));
       cornerAt = λ r k. getD corners (4 * r + k) 0;
     }
+
+-- The one that build stores: "Build takes a left-handed piece by exchanging its last two corners before marking." Each piece keeps its place in the list.
+abbrev pub builtBase : List ℤ → List ℕ → BaseMesh
+builtBase coordinates corners =
+    record {
+      vertices = length coordinates / 3;
+      pieces = length corners / 4;
+      placeAt = plainPlace coordinates;
+      shapeAt = λ r. shapeOf (markedPiece coordinates (rightedPiece coordinates (plainPiece corners r)));
+      cornerAt = λ r k. getD (rightedPiece coordinates (plainPiece corners r) .corners) k 0;
+    }
+
+-- Piece r as it is built, beside piece r as it is given.
+pub record AsGiven (given built : BaseMesh) (r : ℕ) : Type 0 where
+  -- a left-handed piece has "its last two corners" exchanged, any other has its corners where they were
+  pub left : leftHanded (λ k. pointAt given (given .cornerAt r k)) ≡ true →
+      (built .cornerAt r 0 ≡ given .cornerAt r 0) × (built .cornerAt r 1 ≡ given .cornerAt r 1) × (built .cornerAt r 2 ≡ given .cornerAt r 3) × (built .cornerAt r 3 ≡ given .cornerAt r 2)
+  pub right : leftHanded (λ k. pointAt given (given .cornerAt r k)) ≡ false → (k : ℕ) → k < 4 → built .cornerAt r k ≡ given .cornerAt r k
+  -- its refinement edge has the same two vertices
+  pub edge :
+      let e = built .shapeAt r .edge in
+      let f = given .shapeAt r .edge in
+      SamePair (built .cornerAt r (lowSlot e)) (built .cornerAt r (highSlot e)) (given .cornerAt r (lowSlot f)) (given .cornerAt r (highSlot f))
+  -- so has the mark of each face: of face i as built and face j as given, where these are the same three corners
+  pub marks : (i j : ℕ) → i < 4 → j < 4 → ((x : ℕ) → OnBaseFace built r i x ↔ OnBaseFace given r j x) →
+      let e = mark (built .shapeAt r) i in
+      let f = mark (given .shapeAt r) j in
+      SamePair (built .cornerAt r (lowSlot e)) (built .cornerAt r (highSlot e)) (given .cornerAt r (lowSlot f)) (given .cornerAt r (highSlot f))
 
 -- ---- 21: not "coordinates not three a vertex, or corners not four a piece"
 
@@ -416,11 +455,11 @@ pub record BuildAccepts (coordinates : List ℤ) (corners : List ℕ) (room : �
 abbrev pub no-cuts : (count : ℕ) → Cuts count
 no-cuts count = record { has = λ n. false; rooted = λ n t. absurd (false≢true t); closed = λ n side t. absurd (false≢true t) }
 
--- The output buffer holds the stored base mesh of the lists, with nothing cut, for this job and round 0, and zeros past it.
+-- The output buffer holds the stored base mesh of the lists, right-handed and with nothing cut, for this job and round 0, and zeros past it.
 pub record BuiltMesh (job : ℕ) (coordinates : List ℤ) (corners : List ℕ) (bytes : List ℕ) (room : ℕ) : Type 0 where
-  pub right : RightSet (plainBase coordinates corners) (no-cuts (plainBase coordinates corners .pieces))
+  pub right : RightSet (builtBase coordinates corners) (no-cuts (builtBase coordinates corners .pieces))
   pub result : List ℕ
-  pub stores : Stores result job 0 (plainBase coordinates corners) (no-cuts (plainBase coordinates corners .pieces))
+  pub stores : Stores result job 0 (builtBase coordinates corners) (no-cuts (builtBase coordinates corners .pieces))
   pub fits-room : length result ≤ room
   pub buffer : bytes ≡ zeroPast room result
 

@@ -4,3 +4,4 @@ pub mod VolumeLaws
 pub mod Formal
 pub mod Halving
 pub mod VolumeTheorems
+pub mod Handed

@@ -1,9 +1,12 @@
 -- Document 01, "Vertices and the grid": "Sixfold volume is the absolute determinant of three differences of three coordinates each (corners 1, 2, 3 less corner 0)".
 -- Assumes nothing.
+use mathlib.Core.Bool.{Bool}
 use mathlib.Core.List.{List, [], _∷_}
 use Prim.Native.Nat.{ℕ}
 use lib.ListN.{getD}
+use lib.Dec.{eqb}
 use lib.IntN.{ℤ, pos, natAbs, _+ℤ_, _-ℤ_, _*ℤ_}
+use lib.Signed.{ltZ}
 use Rattle.grid.specs.Places.{Point}
 
 -- what stands in row i and column j
@@ -28,6 +31,16 @@ differencesOf corner = differenceOf (corner 1) (corner 0) ∷ differenceOf (corn
 -- Document 02: "The volume service must return the signed determinant, positive for right-handed".
 abbrev pub signedOf : (ℕ → Point) → ℤ
 signedOf corner = determinantOf (differencesOf corner)
+
+-- Flat: the determinant is 0. Left-handed: it is negative.
+abbrev pub isFlat : ℤ → Bool
+isFlat signed = eqb (natAbs signed) 0
+
+abbrev pub isNegative : ℤ → Bool
+isNegative signed = ltZ signed (pos 0)
+
+unfoldable pub leftHanded : (ℕ → Point) → Bool
+leftHanded corner = isNegative (signedOf corner)
 
 -- "Sixfold volume is the absolute determinant"
 unfoldable pub sixfoldOf : (ℕ → Point) → ℕ

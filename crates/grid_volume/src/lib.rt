@@ -4,7 +4,7 @@ ghost use mathlib.Core.Path.{_≡_};
 ghost use Prim.Native.Nat.{_*_, _^_, _≤_};
 ghost use lib.IntN.{natAbs, _+ℤ_, _-ℤ_, _*ℤ_};
 ghost use Rattle.grid.specs.Places.{greatestPlace, pointOf};
-ghost use Rattle.grid_volume.specs.Volume.{determinantOf, signedOf, cornersOf};
+ghost use Rattle.grid_volume.specs.Volume.{determinantOf, signedOf, isFlat, isNegative, cornersOf};
 ghost use Rattle.grid_volume.specs.VolumeLaws.{Within, Difference};
 
 // A row: p less q, coordinate by coordinate.
@@ -55,4 +55,18 @@ pub fn signed(a: Place, b: Place, c: Place, d: Place) -> i64
 {
     let m = [difference(b, a), difference(c, a), difference(d, a)];
     determinant(m)
+}
+
+// A piece with this signed determinant is flat.
+pub fn is_flat(signed: i64) -> bool
+    ensures { λ r. ⌜ r ≡ isFlat signed ⌝ }
+{
+    signed == 0
+}
+
+// A piece with this signed determinant is left-handed.
+pub fn is_negative(signed: i64) -> bool
+    ensures { λ r. ⌜ r ≡ isNegative signed ⌝ }
+{
+    signed < 0
 }

@@ -2,19 +2,20 @@
 -- whatever the bytes: so a buffer of that size holds every listing.
 use mathlib.Core.Path.{_≡_, refl}
 use mathlib.Core.Logic.{_≢_, ⊎-elim}
-use mathlib.Core.Bool.{Bool, true, false, cond}
+use mathlib.Core.Bool.{Bool, true, false, not, cond}
 use mathlib.Core.List.{List, [], _∷_, _++_}
 use Prim.Native.Nat.{ℕ, zero, suc, _-_, _^_, _≤_}
 use native.Mathlib.Omega.{arith}
 use lib.Dec.{ltb, eqb}
 use lib.ListN.{length, take, getD, replicate, length-append}
 use lib.Seq.{take-at}
-use borrow.Author.Tests.{ltb-true, ltb-false, eqb-true, eqb-false}
+use borrow.Author.Tests.{ltb-true, ltb-false, eqb-true, eqb-false, not-true}
 use Rattle.laws.specs.Below.{either}
 use Rattle.laws.specs.Lists.{zeroPast, Bytes}
 use Rattle.stored.specs.Layout.{limits}
 use Rattle.mesh_tables.specs.Tables.{tablesOf, allRecords, isLeaf, pieceAt}
-use Rattle.check_refusals.specs.Check.{checkOf}
+use Rattle.laws.specs.Order.{given-passes}
+use Rattle.check_refusals.specs.Check.{tableRows, rows, checkNumber, checkOf}
 use Rattle.check_refusals.specs.Rows.{check-small, report-number}
 use Rattle.check_service.specs.Verdict.{accepted-bounded}
 use Rattle.list_lines.specs.Lines.{lineRoom, refusedLine, headingLine, leafLine}
@@ -42,8 +43,13 @@ module _ (s : List ℕ) where
   unfolding tablesOf
   few-records e = accepted-bounded s e .records
 
-  number-small : checkOf s .number ≤ 10
+  number-small : checkOf s .number ≤ 22
   number-small = omega (arith, report-number s, check-small s)
+
+  -- Check has no 20.
+  check-not-20 : checkNumber s ≢ 20
+  unfolding checkNumber rows tableRows
+  check-not-20 = eqb-false (checkNumber s) 20 (not-true (eqb (checkNumber s) 20) (given-passes (λ k. not (eqb k 20)) (rows s) refl))
 
 module _ (s : List ℕ) (b : Bytes s) where
   leaves-fit : (n : ℕ) → n ≤ 10 ^ 10 → Fit (leafLines (tablesOf s) n)
@@ -98,7 +104,7 @@ module _ (s : List ℕ) (b : Bytes s) where
     never-20 e =
         ⊎-elim
         (λ t. omega (arith, e, whole .0, longer-number s (ltb-true largestMesh (length s) t)))
-        (λ f. omega (arith, e, whole .0, judged-number s (ltb-false largestMesh (length s) f), number-small s))
+        (λ f. check-not-20 s (omega (arith, e, whole .0, judged-number s (ltb-false largestMesh (length s) f), report-number s)))
         (either (ltb largestMesh (length s)))
 
     pub whole-listing : take (listLength s room) (listBytes s room) ≡ listingOf s

@@ -3,23 +3,27 @@
 use mathlib.Core.Path.{_≡_, sym, _∙_, subst, subst₂}
 use mathlib.Core.Logic.{_↔_, _≢_}
 use mathlib.Core.List.{List}
-use Prim.Native.Nat.{ℕ, _≤_, _<_}
+use Prim.Native.Nat.{ℕ, _+_, _≤_, _<_}
 use lib.ListN.{length, getD}
-use lib.IntN.{ℤ, pos}
+use lib.IntN.{ℤ, pos, _*ℤ_}
+use lib.Signed.{_<ℤ_}
 use Rattle.laws.specs.Lists.{zeroPast, Bytes}
 use Rattle.stored.specs.Layout.{selectionOf}
 use Rattle.check_refusals.specs.declared.Report.{Report}
-use Rattle.mesh_tables.specs.Tables.{tablesOf}
+use Rattle.mesh_tables.specs.Tables.{tablesOf, allRecords}
 use Rattle.check_refusals.specs.Check.{CheckOutcomeIs}
 use Rattle.check_refusals.specs.Rows.{report-number}
+use Rattle.check_meaning.specs.Accepted.{Cut, firstChild}
+use Rattle.check_meaning.specs.Volumes.{signed}
 use Rattle.build_service.specs.Build.{plainBytes, BuildOutcomeIs}
 use Rattle.refine_service.specs.Refine.{RefineOutcomeIs}
 use Rattle.list_service.specs.declared.Listed.{Listed}
 use Rattle.list_service.specs.Listing.{ListOutcomeIs}
-use Rattle.demands_words.specs.Words.{I16, fullSize, StoredMesh, Figures, ArgumentTypes, BuildAccepts, BuiltMesh, RightSelectionLength, RightSelectionMark, GoodFor}
+use Rattle.demands_words.specs.Words.{I16, fullSize, StoredMesh, Figures, ArgumentTypes, plainBase, builtBase, AsGiven, BuildAccepts, BuiltMesh, RightSelectionLength, RightSelectionMark, GoodFor}
 use Rattle.demands.specs.Demand1.{CheckOutcome, BuildOutcome, RefineOutcome, ListOutcome, check-outcome, build-outcome, refine-outcome, list-outcome}
 use Rattle.demands.specs.Demand2.{ClosedFits, closedBytes, demand-2}
 use Rattle.demands.specs.Demand3.{LeastOrFullFrom, demand-3, another-job, another-round, accepted-good}
+use Rattle.demands.specs.Handed.{records-right-handed, records-halved, built-as-given}
 use Rattle.face_to_face.specs.Words.{FaceToFace}
 use Rattle.face_to_face.specs.FaceToFace.{Meets, face-to-face, built-meets, refined-meets}
 
@@ -31,6 +35,10 @@ pub record CheckPromise (mesh : List ℕ) (r : Report) : Type 0 where
   -- demand 2
   pub exactly : (r .number ≡ 0) ↔ StoredMesh mesh
   pub figures : (x : StoredMesh mesh) → Figures (x .base) (x .cuts) (r .leaves) (r .deepest) (r .sixfold)
+  -- request three: "a child's signed value is exactly half of its parent's", and every record is right-handed
+  pub right-handed : r .number ≡ 0 → (n : ℕ) → n < allRecords (tablesOf mesh) → pos 0 <ℤ signed (tablesOf mesh) n
+  pub halved : r .number ≡ 0 → let m = tablesOf mesh in (n : ℕ) → n < allRecords m → Cut m n →
+      (pos 2 *ℤ signed m (firstChild m n) ≡ signed m n) × (pos 2 *ℤ signed m (firstChild m n + 1) ≡ signed m n)
   -- request thirteen
   pub meets : r .number ≡ 0 → FaceToFace (tablesOf mesh)
 
@@ -42,6 +50,8 @@ check-promised mesh r bytes is =
       outcome = check-outcome mesh;
       exactly = (λ e. both .0 (bytes, e), λ x. both .1 x .1);
       figures = demand-2 .figures mesh;
+      right-handed = λ e. records-right-handed mesh (sym (report-number mesh) ∙ e);
+      halved = λ e. records-halved mesh (sym (report-number mesh) ∙ e);
       meets = λ e. face-to-face mesh (sym (report-number mesh) ∙ e);
     })
 
@@ -58,6 +68,8 @@ pub record BuildPromise (job : ℕ) (coordinates : List ℤ) (corners : List ℕ
   pub exactly : (number ≡ 0) ↔ BuildAccepts coordinates corners room
   pub stores : number ≡ 0 → BuiltMesh job coordinates corners out room
   pub marking : number ≡ 0 → out ≡ zeroPast room (plainBytes job coordinates corners)
+  -- request three: left-handed pieces have their last two corners exchanged, and the marked edges, as pairs of vertices, are those of the pieces as given
+  pub as-given : number ≡ 0 → (r : ℕ) → r < plainBase coordinates corners .pieces → AsGiven (plainBase coordinates corners) (builtBase coordinates corners) r
   -- request thirteen
   pub meets : number ≡ 0 → Meets out room
 
@@ -70,6 +82,7 @@ build-promised job coordinates corners room number out types is =
       exactly = demand-2 .build-accepts job coordinates corners types room;
       stores = demand-2 .build-stores job coordinates corners types room;
       marking = demand-2 .marking job coordinates corners types room;
+      as-given = λ e. built-as-given coordinates corners room (demand-2 .build-accepts job coordinates corners types room .0 e);
       meets = built-meets job coordinates corners types room;
     })
 

@@ -1,31 +1,23 @@
 -- What refine's answer says, for every mesh, every selection and every length of the output buffer.
-use mathlib.Core.Path.{_≡_, refl, sym, ap, _∙_}
+use mathlib.Core.Path.{_≡_, sym, ap, _∙_}
 use mathlib.Core.Bool.{true, false}
-use mathlib.Core.List.{List, _++_}
-use Prim.Native.Nat.{ℕ, _+_, _≤_, _<_}
+use mathlib.Core.List.{List}
+use Prim.Native.Nat.{ℕ, _+_, _<_}
 use lib.ListN.{replicate}
-use lib.Dec.{eqb, leb}
-use borrow.Author.Tests.{leb-true}
+use lib.Dec.{eqb}
 use Rattle.laws.specs.Lists.{zeroPast}
-use Rattle.laws.specs.Order.{firstBroken, given-passes}
+use Rattle.laws.specs.Order.{firstBroken}
 use Rattle.stored.specs.Layout.{limits, lastRound, roundAfter, headerOf, meshBytes, rightSelectionLength, rightSelectionMark, selectionOf, namedIn}
 use Rattle.stored.specs.Fitting.{round-rises}
 use Rattle.mesh_tables.specs.Tables.{tablesOf}
-use Rattle.check_refusals.specs.Check.{rows, tableRows, checkNumber}
-use Rattle.refine_selection.specs.Selected.{wrongSelectionLength, wrongSelectionMark, anotherJob, anotherRound, selectionRows, roundRow, isNamed}
+use Rattle.check_refusals.specs.Check.{checkNumber}
+use Rattle.refine_selection.specs.Selected.{wrongSelectionLength, wrongSelectionMark, anotherJob, anotherRound, selectionRows, isNamed}
 use Rattle.refine_pass.specs.Stays.{job-stays, round-stays, base-vertices-stay, base-records-stay}
-use Rattle.refine_service.specs.Refine.{closed, resultOf, refineSelectionRows, resultRows, refineNumber, refineBytes}
+use Rattle.refine_service.specs.Refine.{closed, resultOf, refineSelectionRows, refineNumber, refineBytes}
 use Rattle.refine_service.specs.Order.{selectionNumber}
 use Rattle.refine_service.specs.Storing.{refine-selected}
 
 module _ (mesh selection : List ℕ) (room : ℕ) where
-  -- "Refine gives 1 to 20", or 0.
-  pub number-at-most : refineNumber mesh selection room ≤ 20
-  unfolding refineNumber rows tableRows refineSelectionRows selectionRows roundRow resultRows
-  number-at-most =
-      leb-true (refineNumber mesh selection room) 20
-      (given-passes (λ n. leb n 20) (rows mesh ++ (refineSelectionRows (tablesOf mesh) selection ++ resultRows (closed mesh selection .header) room)) refl)
-
   -- "After a refusal the output buffer is zero throughout"
   pub refused-bytes : eqb (refineNumber mesh selection room) 0 ≡ false → refineBytes mesh selection room ≡ replicate room 0
   unfolding refineBytes

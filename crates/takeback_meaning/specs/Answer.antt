@@ -1,31 +1,23 @@
 -- What taking cuts back answers, for every mesh, every request and every length of the output buffer.
 use mathlib.Core.Path.{_≡_, refl, sym, _∙_}
-use mathlib.Core.Bool.{true, false, _||_}
-use mathlib.Core.List.{List, [], _∷_, _++_}
+use mathlib.Core.Bool.{true, false}
+use mathlib.Core.List.{List}
 use Prim.Native.Nat.{ℕ, _+_, _<_}
 use lib.ListN.{replicate}
-use lib.Dec.{eqb, leb}
+use lib.Dec.{eqb}
 use Rattle.laws.specs.Lists.{zeroPast}
-use Rattle.laws.specs.Order.{firstBroken, given-passes}
+use Rattle.laws.specs.Order.{firstBroken}
 use Rattle.stored.specs.Layout.{lastRound, headerOf, meshBytes, rightSelectionLength, rightSelectionMark, selectionOf}
 use Rattle.stored.specs.Fitting.{round-rises}
 use Rattle.mesh_tables.specs.Tables.{tablesOf}
-use Rattle.check_refusals.specs.Check.{rows, tableRows, checkNumber}
-use Rattle.refine_selection.specs.Selected.{wrongSelectionLength, wrongSelectionMark, anotherJob, anotherRound, selectionRows, roundRow}
-use Rattle.refine_service.specs.Refine.{resultOf, roomRow}
+use Rattle.check_refusals.specs.Check.{checkNumber}
+use Rattle.refine_selection.specs.Selected.{wrongSelectionLength, wrongSelectionMark, anotherJob, anotherRound, selectionRows}
+use Rattle.refine_service.specs.Refine.{resultOf}
 use Rattle.takeback_remains.specs.Remains.{closedUp}
 use Rattle.takeback_service.specs.TakeBack.{left, requestRows, takeBackNumber, takeBackBytes}
 use Rattle.takeback_service.specs.Order.{requestNumber, request-refused}
 
 module _ (mesh request : List ℕ) (room : ℕ) where
-  -- "Refusals: 1 to 15, 18 and 20 as in refine, and 30", or 0.
-  pub number-one-of-these : (leb (takeBackNumber mesh request room) 15 || eqb (takeBackNumber mesh request room) 18 || eqb (takeBackNumber mesh request room) 20 || eqb (takeBackNumber mesh request room) 30) ≡ true
-  unfolding takeBackNumber rows tableRows requestRows selectionRows roundRow
-  number-one-of-these =
-      given-passes (λ n. leb n 15 || eqb n 18 || eqb n 20 || eqb n 30)
-      (rows mesh ++ (requestRows (tablesOf mesh) request ++ (roomRow (left mesh request .header) room ∷ [])))
-      refl
-
   -- "After a refusal the output buffer is zero throughout"
   pub refused-bytes : eqb (takeBackNumber mesh request room) 0 ≡ false → takeBackBytes mesh request room ≡ replicate room 0
   unfolding takeBackBytes

@@ -2,7 +2,7 @@
 -- all zeros". `MeshIn` is in `demands/specs/Demand1`.
 use mathlib.Core.Path.{_≡_, sym, ap, _∙_}
 use mathlib.Core.Logic.{_≢_, _⊎_, inl, inr, ⊎-elim}
-use mathlib.Core.List.{List, [], _∷_}
+use mathlib.Core.List.{List, [], _∷_, _++_}
 use Prim.Native.Nat.{ℕ, _≤_}
 use native.Mathlib.Omega.{arith}
 use lib.ListN.{length, replicate, length-append, length-replicate}
@@ -23,6 +23,7 @@ use Rattle.takeback_meaning.specs.Answer.{refused-bytes, accepted-bytes, job-ke
 use Rattle.demands_proofs.specs.Outcomes.{zero-or-not, header-first}
 use Rattle.demands_proofs.specs.StoredOf.{stored-of-accepted}
 use Rattle.demands.specs.Demand1.{MeshIn}
+use Rattle.demands_words.specs.Words.{checkNumbers}
 use Rattle.taken_back.specs.Words.{leftBytes}
 use Rattle.taken_back.specs.Requests.{take-back-accepts}
 use Rattle.taken_back.specs.Result.{left-vertices, left-records, left-as-long}
@@ -30,15 +31,15 @@ use Rattle.taken_back.specs.TakenBack.{accepted-again, accepted-good}
 
 -- What taking cuts back answers, for two byte strings and a length of the output buffer.
 pub record TakeBackOutcome (mesh request : List ℕ) (room number : ℕ) (bytes : List ℕ) : Type 0 where
-  -- "either a mesh", which check accepts; "or a numbered refusal", one of "1 to 15, 18 and 20 as in refine, and 30", and "all zeros".
+  -- "either a mesh", which check accepts; "or a numbered refusal", one of "1 to 15, 18 and 20 as in refine, and 30", with check's 22, and "all zeros".
   pub either :
       ((number ≡ 0) × (out : MeshIn bytes room) × (checkNumber (meshBytes (out .mesh)) ≡ 0))
-      ⊎ (OneOf (1 ∷ 2 ∷ 3 ∷ 4 ∷ 5 ∷ 6 ∷ 7 ∷ 8 ∷ 9 ∷ 10 ∷ 11 ∷ 12 ∷ 13 ∷ 14 ∷ 15 ∷ 30 ∷ 18 ∷ 20 ∷ []) number × (bytes ≡ replicate room 0))
+      ⊎ (OneOf (checkNumbers ++ (11 ∷ 12 ∷ 13 ∷ 14 ∷ 15 ∷ 30 ∷ 18 ∷ 20 ∷ [])) number × (bytes ≡ replicate room 0))
   -- The output buffer keeps its length.
   pub length : length bytes ≡ room
 
 module _ (mesh request : List ℕ) (room : ℕ) where
-  one-of-these : OneOf (0 ∷ 1 ∷ 2 ∷ 3 ∷ 4 ∷ 5 ∷ 6 ∷ 7 ∷ 8 ∷ 9 ∷ 10 ∷ 11 ∷ 12 ∷ 13 ∷ 14 ∷ 15 ∷ 30 ∷ 18 ∷ 20 ∷ []) (takeBackNumber mesh request room)
+  one-of-these : OneOf (0 ∷ (checkNumbers ++ (11 ∷ 12 ∷ 13 ∷ 14 ∷ 15 ∷ 30 ∷ 18 ∷ 20 ∷ []))) (takeBackNumber mesh request room)
   unfolding takeBackNumber rows tableRows requestRows selectionRows roundRow
   one-of-these = one-of-them _
 

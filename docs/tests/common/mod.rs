@@ -135,9 +135,9 @@ impl Stored {
         children.all(|child| child.first_child == NONE)
     }
 
-    /// Sixfold volume of a record, by another formula than the program's: the four-by-four
+    /// The signed value of a record, by another formula than the program's: the four-by-four
     /// determinant with a column of ones.
-    pub fn sixfold(&self, number: usize) -> u64 {
+    pub fn signed(&self, number: usize) -> i64 {
         let rows: Vec<[i128; 3]> = self.records[number]
             .corners
             .iter()
@@ -151,7 +151,12 @@ impl Stored {
         };
         let (a, b, c, d) = (rows[0], rows[1], rows[2], rows[3]);
         let value = three(b, c, d) - three(a, c, d) + three(a, b, d) - three(a, b, c);
-        value.unsigned_abs() as u64
+        value as i64
+    }
+
+    /// Sixfold volume of a record.
+    pub fn sixfold(&self, number: usize) -> u64 {
+        self.signed(number).unsigned_abs()
     }
 
     /// The two ends of a record's refinement edge, lower first.
@@ -178,6 +183,17 @@ pub fn code_of(corners: [u16; 4], edge: Pair) -> u8 {
     (0..6)
         .find(|&k| pair(corners[CODES[k].0], corners[CODES[k].1]) == edge)
         .expect("an edge of the piece") as u8
+}
+
+/// The same piece in the other hand: two of its corners exchanged, edge and marks along.
+pub fn turned(r: &Record, one: usize, other: usize) -> Record {
+    let mut turned = *r;
+    turned.corners.swap(one, other);
+    turned.marks.swap(one, other);
+    for code in turned.marks.iter_mut().chain([&mut turned.edge]) {
+        *code = code_of(turned.corners, ends(r, *code));
+    }
+    turned
 }
 
 /// The three corners of face i as a set.
@@ -651,6 +667,22 @@ pub fn mesh_accepted(name: &str, mesh: &[u8]) {
     assert_eq!((report.record, report.edge), (0, 0), "{name}");
 }
 
+/// "Positive for right-handed"; "a child's signed value is exactly half of its parent's": both of every
+/// record. Gives how many there are.
+pub fn right_handed_by_halves(stored: &Stored) -> usize {
+    for (n, r) in stored.records.iter().enumerate() {
+        let value = stored.signed(n);
+        assert!(value > 0, "record {n}: {value}");
+        if r.first_child != NONE {
+            let first = r.first_child as usize;
+            let children = [first, first + 1].map(|child| stored.signed(child));
+            assert_eq!(value % 2, 0, "record {n}");
+            assert_eq!(children, [value / 2; 2], "record {n}");
+        }
+    }
+    stored.records.len()
+}
+
 /// A mesh with one piece for each group of four places, marked as given: refinement edge and marks.
 pub fn marked(places: &[[i16; 3]], pieces: &[([u16; 4], u8, [u8; 4])]) -> Stored {
     Stored {
@@ -706,13 +738,14 @@ pub fn naive_check(bytes: &[u8]) -> (u64, u64, u64) {
     let stored = decode(bytes);
     let s = &stored;
     let (base_vertices, base_records) = (s.base_vertices as usize, s.base_records as usize);
-    let rules: [(u64, &dyn Fn() -> bool); 6] = [
+    let rules: [(u64, &dyn Fn() -> bool); 7] = [
         (4, &|| vertices_hold(s, base_vertices)),
         (5, &|| {
             s.records[..base_records]
                 .iter()
                 .all(|r| base_piece_holds(s, r))
         }),
+        (22, &|| (0..base_records).all(|n| s.signed(n) > 0)),
         (6, &|| s.records[..base_records].iter().all(marks_hold)),
         (7, &|| faces_hold(&s.records[..base_records])),
         (8, &|| {

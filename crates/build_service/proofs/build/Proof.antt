@@ -6,7 +6,7 @@ use lib.ListN.{length}
 use denote.Ref.{now}
 use Rattle.stored.specs.declared.Limits.{Limits}
 use Rattle.check_refusals.specs.Refusals.{wrongCounts}
-use Rattle.build_service.specs.Build.{plainHeader, plainBytes}
+use Rattle.build_service.specs.Build.{plainHeader, plainBytes, badGivenPieces}
 use Rattle.laws.specs.Lists.{clear-itself, clear-long}
 use Rattle.build_service.specs.Storing.{counts-alone, laterNumber, laterBytes, build-21, build-21-bytes, build-3, build-3-bytes, build-later, build-later-bytes}
 use Rattle.build_service.proofs.build.Statement.{statement}
@@ -54,8 +54,8 @@ returns-3 c =
     let counts = sym (counts-alone (a .job) coordinates corners) ∙ sym (ap (λ (most : Limits). wrongCounts most (plainHeader 0 coordinates corners)) (c .before .before .before .before .before .before .limits-of-version-1 .ensures)) ∙ sym (c .before .before .before .before .before .wrong-counts .ensures) ∙ c .before .before .before .before .if2 .left in
     let long = clear-long (clear .last .0) room (clear .ensures) in
     record {
-      number = c .before .before .store .ensures .0 ∙ ap (laterNumber (plainBytes (a .job) coordinates corners)) long ∙ sym (build-later (a .job) coordinates corners room whole counts);
-      bytes = c .before .before .store .ensures .1 ∙ ap (laterBytes (plainBytes (a .job) coordinates corners)) long ∙ build-later-bytes (a .job) coordinates corners room whole counts;
+      number = c .before .before .store .ensures .0 ∙ ap (laterNumber (badGivenPieces coordinates corners) (plainBytes (a .job) coordinates corners)) long ∙ sym (build-later (a .job) coordinates corners room whole counts);
+      bytes = c .before .before .store .ensures .1 ∙ ap (laterBytes (badGivenPieces coordinates corners) (plainBytes (a .job) coordinates corners)) long ∙ build-later-bytes (a .job) coordinates corners room whole counts;
     }
 
 pub build-spec : {M : Type 1} → statement M

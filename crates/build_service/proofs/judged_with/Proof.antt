@@ -18,46 +18,46 @@ is-4 c =
     let rule = badVertices (tables (a .h) (a .l) (now (a .base)) (now (a .grown))) in
     sym (c .bad-vertices .ensures (c .before .before .before .before .before .before .before .before .before .pre .1 .0) ∙ ap (λ (b : Bool). b || rule) (fit-not-short (now (a .heads)) (now (a .links)) _ _ _ refl refl (c .before .before .before .before .before .before .before .before .before .pre .0 .vertices)))
 
-is-7 : (c : tie.After-bad-base-faces) → let a = c .before .before .before .before .before .before .before .before .before .before .before .before .before .before .before .before .before .before .before .args in badBaseFaces (tables (a .h) (a .l) (now (a .base)) (now (a .grown))) ≡ c .bad-base-faces .result
+is-7 : (c : tie.After-bad-base-faces) → let a = c .before .before .before .before .before .before .before .before .before .before .before .before .before .before .before .before .before .before .args in badBaseFaces (tables (a .h) (a .l) (now (a .base)) (now (a .grown))) ≡ c .bad-base-faces .result
 is-7 c =
-    let a = c .before .before .before .before .before .before .before .before .before .before .before .before .before .before .before .before .before .before .before .args in
+    let a = c .before .before .before .before .before .before .before .before .before .before .before .before .before .before .before .before .before .before .args in
     let rule = badBaseFaces (tables (a .h) (a .l) (now (a .base)) (now (a .grown))) in
-    let before = c .before .before .before .before .before .before .before .before .before .before .bad-vertices in
-    sym (c .bad-base-faces .ensures (c .before .before .before .before .before .before .before .before .before .before .before .before .before .before .before .before .before .before .before .pre .1 .1) ∙ ap (λ (b : Bool). b || rule) (fit-not-short (now (a .face-heads)) (before .last .1 .1 .1 .1 .1 .0) _ _ _ refl (before .kept .1 .1 .1 .1 .1 .0) (c .before .before .before .before .before .before .before .before .before .before .before .before .before .before .before .before .before .before .before .pre .0 .faces)))
+    let before = c .before .before .before .before .before .before .before .before .before .bad-vertices in
+    sym (c .bad-base-faces .ensures (c .before .before .before .before .before .before .before .before .before .before .before .before .before .before .before .before .before .before .pre .1 .1) ∙ ap (λ (b : Bool). b || rule) (fit-not-short (now (a .face-heads)) (before .last .1 .1 .1 .1 .1 .0) _ _ _ refl (before .kept .1 .1 .1 .1 .1 .0) (c .before .before .before .before .before .before .before .before .before .before .before .before .before .before .before .before .before .before .pre .0 .faces)))
 
-is-8 : (c : tie.After-unused-vertices) → let a = c .before .before .before .before .before .before .before .before .before .before .before .before .before .before .before .before .before .before .before .before .before .before .before .before .before .before .args in unusedVertices (tables (a .h) (a .l) (now (a .base)) (now (a .grown))) ≡ c .unused-vertices .result
+is-8 : (c : tie.After-unused-vertices) → let a = c .before .before .before .before .before .before .before .before .before .before .before .before .before .before .before .before .before .before .before .before .before .before .before .before .before .args in unusedVertices (tables (a .h) (a .l) (now (a .base)) (now (a .grown))) ≡ c .unused-vertices .result
 is-8 c =
-    let a = c .before .before .before .before .before .before .before .before .before .before .before .before .before .before .before .before .before .before .before .before .before .before .before .before .before .before .args in
+    let a = c .before .before .before .before .before .before .before .before .before .before .before .before .before .before .before .before .before .before .before .before .before .before .before .before .before .args in
     let rule = unusedVertices (tables (a .h) (a .l) (now (a .base)) (now (a .grown))) in
-    sym (c .unused-vertices .ensures ∙ ap (λ (b : Bool). b || rule) (le-ltb _ _ (c .before .before .before .before .before .before .before .before .before .before .before .before .before .before .before .before .before .before .before .before .before .before .before .before .before .before .pre .0 .each-base-vertex)))
+    sym (c .unused-vertices .ensures ∙ ap (λ (b : Bool). b || rule) (le-ltb _ _ (c .before .before .before .before .before .before .before .before .before .before .before .before .before .before .before .before .before .before .before .before .before .before .before .before .before .pre .0 .each-base-vertex)))
 
 returns : tie.Need-returns
-returns c = let a = c .before .before .before .before .before .before .before .before .before .before .before .before .before .before .args in judged-4 (tables (a .h) (a .l) (now (a .base)) (now (a .grown))) (is-4 ((c .before .before .before .before .before)) ∙ c .if1 .taken)
+returns c = let a = c .before .before .before .before .before .before .before .before .before .before .before .before .before .before .args in judged-4 (a .given) (tables (a .h) (a .l) (now (a .base)) (now (a .grown))) (is-4 ((c .before .before .before .before .before)) ∙ c .if1 .taken)
 
 returns-2 : tie.Need-returns-2
 returns-2 c =
-    let a = c .before .before .before .before .before .before .before .before .before .before .before .before .before .before .before .before .args in
-    judged-5 (tables (a .h) (a .l) (now (a .base)) (now (a .grown))) (is-4 ((c .before .before .before .before .before .before .before)) ∙ c .before .before .if1 .left) (sym (c .before .bad-base-records .ensures) ∙ c .if2 .taken)
+    let a = c .before .before .before .before .before .before .before .before .before .before .before .before .before .before .before .args in
+    judged-5 (a .given) (tables (a .h) (a .l) (now (a .base)) (now (a .grown))) (is-4 ((c .before .before .before .before .before .before)) ∙ c .before .if1 .left) (c .if2 .taken)
 
 returns-3 : tie.Need-returns-3
 returns-3 c =
-    let a = c .before .before .before .before .before .before .before .before .before .before .before .before .before .before .before .before .before .before .before .before .before .before .before .before .args in
-    judged-7 (tables (a .h) (a .l) (now (a .base)) (now (a .grown))) (is-4 ((c .before .before .before .before .before .before .before .before .before .before .before .before .before .before .before)) ∙ c .before .before .before .before .before .before .before .before .before .before .if1 .left)
-    (sym (c .before .before .before .before .before .before .before .before .before .bad-base-records .ensures) ∙ c .before .before .before .before .before .before .before .before .if2 .left) (is-7 ((c .before .before .before .before .before)) ∙ c .if3 .taken)
+    let a = c .before .before .before .before .before .before .before .before .before .before .before .before .before .before .before .before .before .before .before .before .before .before .before .args in
+    judged-7 (a .given) (tables (a .h) (a .l) (now (a .base)) (now (a .grown))) (is-4 ((c .before .before .before .before .before .before .before .before .before .before .before .before .before .before)) ∙ c .before .before .before .before .before .before .before .before .before .if1 .left)
+    (c .before .before .before .before .before .before .before .before .if2 .left) (is-7 ((c .before .before .before .before .before)) ∙ c .if3 .taken)
 
 returns-4 : tie.Need-returns-4
 returns-4 c =
-    let a = c .before .before .before .before .before .before .before .before .before .before .before .before .before .before .before .before .before .before .before .before .before .before .before .before .before .before .before .before .before .args in
-    judged-8 (tables (a .h) (a .l) (now (a .base)) (now (a .grown))) (is-4 ((c .before .before .before .before .before .before .before .before .before .before .before .before .before .before .before .before .before .before .before .before)) ∙ c .before .before .before .before .before .before .before .before .before .before .before .before .before .before .before .if1 .left)
-    (sym (c .before .before .before .before .before .before .before .before .before .before .before .before .before .before .bad-base-records .ensures) ∙ c .before .before .before .before .before .before .before .before .before .before .before .before .before .if2 .left) (is-7 ((c .before .before .before .before .before .before .before .before .before .before)) ∙ c .before .before .before .before .before .if3 .left) (is-8 ((c .before .before .before)) ∙ c .if4 .taken)
+    let a = c .before .before .before .before .before .before .before .before .before .before .before .before .before .before .before .before .before .before .before .before .before .before .before .before .before .before .before .before .args in
+    judged-8 (a .given) (tables (a .h) (a .l) (now (a .base)) (now (a .grown))) (is-4 ((c .before .before .before .before .before .before .before .before .before .before .before .before .before .before .before .before .before .before .before)) ∙ c .before .before .before .before .before .before .before .before .before .before .before .before .before .before .if1 .left)
+    (c .before .before .before .before .before .before .before .before .before .before .before .before .before .if2 .left) (is-7 ((c .before .before .before .before .before .before .before .before .before .before)) ∙ c .before .before .before .before .before .if3 .left) (is-8 ((c .before .before .before)) ∙ c .if4 .taken)
 
 returns-5 : tie.Need-returns-5
 returns-5 c =
-    let a = c .before .before .before .before .before .before .before .before .before .before .before .before .before .before .before .before .before .before .before .before .before .before .before .before .before .before .before .before .before .args in
-    judged-0 (tables (a .h) (a .l) (now (a .base)) (now (a .grown))) (is-4 ((c .before .before .before .before .before .before .before .before .before .before .before .before .before .before .before .before .before .before .before .before)) ∙ c .before .before .before .before .before .before .before .before .before .before .before .before .before .before .before .if1 .left)
-    (sym (c .before .before .before .before .before .before .before .before .before .before .before .before .before .before .bad-base-records .ensures) ∙ c .before .before .before .before .before .before .before .before .before .before .before .before .before .if2 .left) (is-7 ((c .before .before .before .before .before .before .before .before .before .before)) ∙ c .before .before .before .before .before .if3 .left) (is-8 ((c .before .before .before)) ∙ c .if4 .left)
+    let a = c .before .before .before .before .before .before .before .before .before .before .before .before .before .before .before .before .before .before .before .before .before .before .before .before .before .before .before .before .args in
+    judged-0 (a .given) (tables (a .h) (a .l) (now (a .base)) (now (a .grown))) (is-4 ((c .before .before .before .before .before .before .before .before .before .before .before .before .before .before .before .before .before .before .before)) ∙ c .before .before .before .before .before .before .before .before .before .before .before .before .before .before .if1 .left)
+    (c .before .before .before .before .before .before .before .before .before .before .before .before .before .if2 .left) (is-7 ((c .before .before .before .before .before .before .before .before .before .before)) ∙ c .before .before .before .before .before .if3 .left) (is-8 ((c .before .before .before)) ∙ c .if4 .left)
 
 pub judged-with-spec : {M : Type 1} → statement M
 judged-with-spec =
     tie.close
-    (tie.spec (λ c κs. search needs) (λ c. search needs) (λ c. search needs) returns (λ c κs. search needs) (λ c. search needs) (λ c. search needs) returns-2 (λ c κs. search needs) (λ c. search needs) (λ c. search needs) (λ c. search needs) returns-3 (λ c κs. search needs) (λ c. search needs) (λ c. search needs) (λ c. search needs) (λ c. search needs) returns-4 (λ c. search needs) (λ c. search needs) (λ c. search needs) (λ c. search needs) returns-5)
+    (tie.spec (λ c κs. search needs) (λ c. search needs) (λ c. search needs) returns (λ c. search needs) (λ c. search needs) returns-2 (λ c κs. search needs) (λ c. search needs) (λ c. search needs) (λ c. search needs) returns-3 (λ c κs. search needs) (λ c. search needs) (λ c. search needs) (λ c. search needs) (λ c. search needs) returns-4 (λ c. search needs) (λ c. search needs) (λ c. search needs) (λ c. search needs) returns-5)

@@ -6,11 +6,10 @@ use mathlib.Core.Path.{sym, _∙_, ap, subst}
 use native.Mathlib.Omega.{arith}
 use lib.ListN.{length, replicate, length-replicate}
 use denote.Ref.{now}
-use mathlib.Core.List.{List}
 use Rattle.stored.specs.Layout.{limits, vertexWidth, recordWidth}
 use Rattle.stored.specs.Fitting.{HeaderFits}
 use Rattle.check_refusals.specs.Bounded.{Bounded, bounded}
-use Rattle.build_service.specs.Storing.{header-fits, vertices-held, records-held, plain-assembled, laterNumber, laterBytes}
+use Rattle.build_service.specs.Storing.{header-fits, vertices-held, records-held, plain-assembled, given-pieces, laterNumber, laterBytes}
 use Rattle.build_service.proofs.store.Statement.{statement}
 use Rattle.build_service.proofs.store.Tie as tie
 
@@ -19,41 +18,43 @@ plain-header-requires c κs = c .before .before .pre .0
 
 finish-requires : tie.Need-finish-requires
 finish-requires c κs =
-    let a = c .before .before .before .before .before .before .before .before .before .before .before .before .before .before .before .before .args in
+    let a = c .before .before .before .before .before .before .before .before .before .before .before .before .before .before .before .before .before .args in
     let coordinates = now (a .coordinates) in
     let corners = now (a .corners) in
-    let right = c .before .before .before .before .before .before .before .before .before .before .before .before .before .before .before .before .pre .0 in
-    let h = c .before .before .before .before .before .before .before .before .before .before .before .before .before .plain-header in
+    let right = c .before .before .before .before .before .before .before .before .before .before .before .before .before .before .before .before .before .pre .0 in
+    let h = c .before .before .before .before .before .before .before .before .before .before .before .before .before .before .plain-header in
     let first = c .before .before .before .before .before .before .before .before .before .before .put-vertices in
     let then = c .before .before .before .before .before .put-records in
     let deep = ap length (first .ensures .1) ∙ length-replicate {A = ℕ} (recordWidth * limits .records) 0 in
     record {
       bounded = subst Bounded (sym (h .ensures)) (bounded _ right);
-      fits = subst HeaderFits (sym (h .ensures)) (header-fits (a .job) coordinates corners right (omega (arith, c .before .before .before .before .before .before .before .before .before .before .before .before .before .before .before .before .fits .job)));
+      fits = subst HeaderFits (sym (h .ensures)) (header-fits (a .job) coordinates corners right (omega (arith, c .before .before .before .before .before .before .before .before .before .before .before .before .before .before .before .before .before .fits .job)));
       vertices-there = vertices-held (a .job) coordinates corners right (h .result) (h .ensures) (replicate (vertexWidth * limits .vertices) 0) (first .last .1 .0) (then .last .0) (then .last .1 .0) (length-replicate {A = ℕ} (vertexWidth * limits .vertices) 0) deep (then .ensures .0 ∙ first .ensures .0) (then .ensures .1);
       records-there = records-held (a .job) coordinates corners right (h .result) (h .ensures) (replicate (vertexWidth * limits .vertices) 0) (first .last .1 .0) (then .last .0) (then .last .1 .0) (length-replicate {A = ℕ} (vertexWidth * limits .vertices) 0) deep (then .ensures .0 ∙ first .ensures .0) (then .ensures .1);
-      clear = c .before .before .before .before .before .before .before .before .before .before .before .before .before .before .before .before .pre .1;
+      clear = c .before .before .before .before .before .before .before .before .before .before .before .before .before .before .before .before .before .pre .1;
     }
 
 returns : tie.Need-returns
 returns c =
-    let a = c .before .before .before .before .before .before .before .before .before .before .before .before .before .before .before .before .before .before .before .args in
+    let a = c .before .before .before .before .before .before .before .before .before .before .before .before .before .before .before .before .before .before .before .before .args in
     let coordinates = now (a .coordinates) in
     let corners = now (a .corners) in
-    let right = c .before .before .before .before .before .before .before .before .before .before .before .before .before .before .before .before .before .before .before .pre .0 in
-    let h = c .before .before .before .before .before .before .before .before .before .before .before .before .before .before .before .before .plain-header in
+    let right = c .before .before .before .before .before .before .before .before .before .before .before .before .before .before .before .before .before .before .before .before .pre .0 in
+    let h = c .before .before .before .before .before .before .before .before .before .before .before .before .before .before .before .before .before .plain-header in
     let first = c .before .before .before .before .before .before .before .before .before .before .before .before .before .put-vertices in
     let then = c .before .before .before .before .before .before .before .before .put-records in
     let deep = ap length (first .ensures .1) ∙ length-replicate {A = ℕ} (recordWidth * limits .records) 0 in
     let taken = plain-assembled (a .job) coordinates corners right (h .result) (h .ensures) (replicate (vertexWidth * limits .vertices) 0) (first .last .1 .0) (then .last .0) (then .last .1 .0) (length-replicate {A = ℕ} (vertexWidth * limits .vertices) 0) deep (then .ensures .0 ∙ first .ensures .0) (then .ensures .1) in
     let room = length (now (a .out)) in
-    (c .before .before .finish .ensures .0 ∙ ap (λ (t : List ℕ). laterNumber t room) taken, c .before .before .finish .ensures .1 ∙ ap (λ (t : List ℕ). laterBytes t room) taken)
+    let given = c .before .before .before .before .before .before .before .before .before .before .before .before .before .before .before .before .bad-given-pieces .ensures ∙ given-pieces (a .job) coordinates corners (h .result) (h .ensures) in
+    (c .before .before .finish .ensures .0 ∙ (λ i. laterNumber (given i) (taken i) room), c .before .before .finish .ensures .1 ∙ (λ i. laterBytes (given i) (taken i) room))
 
 pub store-spec : {M : Type 1} → statement M
 store-spec =
     tie.close
     (tie.spec
     plain-header-requires
+    (λ c κs. search needs)
     (λ c. search needs)
     (λ c. search needs)
     (λ c κs. search needs)

@@ -1,7 +1,7 @@
 -- `check_figures::sixfold_at`: the absolute value of the signed determinant, which is small enough.
 -- Assumes nothing.
 use borrow.Author.Needs.{needs}
-use mathlib.Core.Path.{_≡_, _∙_, ap}
+use mathlib.Core.Path.{_∙_, ap}
 use mathlib.Core.List.{List}
 use Prim.Native.Nat.{ℕ}
 use lib.IntN.{natAbs}

@@ -10,6 +10,7 @@ use native.Mathlib.Omega.{arith}
 use lib.ListN.{getD}
 use lib.Dec.{leb}
 use Rattle.laws.specs.Below.{anyBelow, any-none, any-next, any-is, any-end}
+use Rattle.check_refusals.specs.Refusals.{cornerNotInBase}
 use Rattle.check_pieces.proofs.corner_not_in_base.Statement.{statement}
 use Rattle.check_pieces.proofs.corner_not_in_base.Tie as tie
 
@@ -27,6 +28,7 @@ loop-holds : tie.Need-loop-holds Inv-loop μ-loop
 loop-holds c = (omega arith, any-none (beyond (c .args .count) (c .args .t2)))
 
 returns : tie.Need-returns Inv-loop μ-loop
+unfolding cornerNotInBase
 returns c =
     let a = c .before .before .before .args in
     sym (any-is (beyond (a .count) (a .t2)) 4 (c .before .before .loop .k) (c .before .loop-test .taken) (le-leb _ _ (c .if1 .taken)))
@@ -37,6 +39,7 @@ loop-again c =
     (omega arith, any-next (beyond (a .count) (a .t2)) (c .before .before .loop .k) (c .before .before .loop .inv .1) (lt-leb _ _ (c .if1 .left)))
 
 returns-2 : tie.Need-returns-2 Inv-loop μ-loop
+unfolding cornerNotInBase
 returns-2 c =
     let a = c .before .before .args in
     sym (any-end (beyond (a .count) (a .t2)) 4 (c .before .loop .k) (c .loop-test .left) (c .before .loop .inv .0) (c .before .loop .inv .1))

@@ -9,6 +9,7 @@ use Rattle.laws.specs.Order.{firstBroken}
 use Rattle.mesh_tables.specs.Tables.{tables}
 use Rattle.check_refusals.specs.Refusals.{badVertices, badBaseFaces, unusedVertices}
 use Rattle.check_refusals.specs.Lent.{fit-not-short}
+use Rattle.check_pieces.specs.Pieces.{pieces-none, pieces-some}
 use Rattle.check_service.specs.Order.{baseNumber}
 use Rattle.check_service.proofs.judged_base.Statement.{statement}
 use Rattle.check_service.proofs.judged_base.Tie as tie
@@ -34,47 +35,59 @@ is-8 c =
 
 returns : tie.Need-returns
 unfolding baseNumber firstBroken
-returns c = rw (is-4 ((c .before .before .before .before .before)) ∙ c .if1 .taken)
+returns c = rw (is-4 (((c .before .before .before .before .before))) ∙ c .if1 .taken)
 
 returns-2 : tie.Need-returns-2
 unfolding baseNumber firstBroken
-returns-2 c = rw (is-4 ((c .before .before .before .before .before .before .before)) ∙ c .before .before .if1 .left, sym (c .before .bad-base-records .ensures) ∙ c .if2 .taken)
+returns-2 c =
+    let a = c .before .before .before .before .before .before .before .before .before .before .before .before .before .before .before .before .args in
+    let m = tables (a .h) (a .l) (now (a .base)) (now (a .grown)) in
+    rw (is-4 (((c .before .before .before .before .before .before .before))) ∙ c .before .before .if1 .left) (pieces-some m (c .before .pieces-number .ensures) (c .if2 .taken) _)
 
 returns-3 : tie.Need-returns-3
 unfolding baseNumber firstBroken
 returns-3 c =
-    rw (is-4 ((c .before .before .before .before .before .before .before .before .before)) ∙ c .before .before .before .before .if1 .left, sym (c .before .before .before .bad-base-records .ensures) ∙ c .before .before .if2 .left, sym (c .before .bad-base-marks .ensures) ∙ c .if3 .taken)
+    let a = c .before .before .before .before .before .before .before .before .before .before .before .before .before .before .before .before .before .before .args in
+    let m = tables (a .h) (a .l) (now (a .base)) (now (a .grown)) in
+    let (bad, left) = pieces-none m (c .before .before .before .pieces-number .ensures) (c .before .before .if2 .left) in
+    rw (is-4 (((c .before .before .before .before .before .before .before .before .before))) ∙ c .before .before .before .before .if1 .left, bad, left, sym (c .before .bad-base-marks .ensures) ∙ c .if3 .taken)
 
 returns-4 : tie.Need-returns-4
 unfolding baseNumber firstBroken
 returns-4 c =
-    rw (
-      is-4 ((c .before .before .before .before .before .before .before .before .before .before .before .before .before .before .before .before .before)) ∙ c .before .before .before .before .before .before .before .before .before .before .before .before .if1 .left,
-      sym (c .before .before .before .before .before .before .before .before .before .before .before .bad-base-records .ensures) ∙ c .before .before .before .before .before .before .before .before .before .before .if2 .left,
-      sym (c .before .before .before .before .before .before .before .before .before .bad-base-marks .ensures) ∙ c .before .before .before .before .before .before .before .before .if3 .left,
-      is-7 ((c .before .before .before .before .before)) ∙ c .if4 .taken,
-    )
+    let a = c .before .before .before .before .before .before .before .before .before .before .before .before .before .before .before .before .before .before .before .before .before .before .before .before .before .before .args in
+    let m = tables (a .h) (a .l) (now (a .base)) (now (a .grown)) in
+    let (bad, left) = pieces-none m (c .before .before .before .before .before .before .before .before .before .before .before .pieces-number .ensures) (c .before .before .before .before .before .before .before .before .before .before .if2 .left) in
+    rw (is-4 (((c .before .before .before .before .before .before .before .before .before .before .before .before .before .before .before .before .before))) ∙ c .before .before .before .before .before .before .before .before .before .before .before .before .if1 .left, bad, left, sym (c .before .before .before .before .before .before .before .before .before .bad-base-marks .ensures) ∙ c .before .before .before .before .before .before .before .before .if3 .left, is-7 (((c .before .before .before .before .before))) ∙ c .if4 .taken)
 
 returns-5 : tie.Need-returns-5
 unfolding baseNumber firstBroken
 returns-5 c =
+    let a = c .before .before .before .before .before .before .before .before .before .before .before .before .before .before .before .before .before .before .before .before .before .before .before .before .before .before .before .before .before .before .before .args in
+    let m = tables (a .h) (a .l) (now (a .base)) (now (a .grown)) in
+    let (bad, left) = pieces-none m (c .before .before .before .before .before .before .before .before .before .before .before .before .before .before .before .before .pieces-number .ensures) (c .before .before .before .before .before .before .before .before .before .before .before .before .before .before .before .if2 .left) in
     rw (
-      is-4 ((c .before .before .before .before .before .before .before .before .before .before .before .before .before .before .before .before .before .before .before .before .before .before)) ∙ c .before .before .before .before .before .before .before .before .before .before .before .before .before .before .before .before .before .if1 .left,
-      sym (c .before .before .before .before .before .before .before .before .before .before .before .before .before .before .before .before .bad-base-records .ensures) ∙ c .before .before .before .before .before .before .before .before .before .before .before .before .before .before .before .if2 .left,
+      is-4 (((c .before .before .before .before .before .before .before .before .before .before .before .before .before .before .before .before .before .before .before .before .before .before))) ∙ c .before .before .before .before .before .before .before .before .before .before .before .before .before .before .before .before .before .if1 .left,
+      bad,
+      left,
       sym (c .before .before .before .before .before .before .before .before .before .before .before .before .before .before .bad-base-marks .ensures) ∙ c .before .before .before .before .before .before .before .before .before .before .before .before .before .if3 .left,
-      is-7 ((c .before .before .before .before .before .before .before .before .before .before)) ∙ c .before .before .before .before .before .if4 .left,
-      is-8 ((c .before .before .before)) ∙ c .if5 .taken,
+      is-7 (((c .before .before .before .before .before .before .before .before .before .before))) ∙ c .before .before .before .before .before .if4 .left,
+      is-8 (((c .before .before .before))) ∙ c .if5 .taken,
     )
 
 returns-6 : tie.Need-returns-6
 unfolding baseNumber firstBroken
 returns-6 c =
+    let a = c .before .before .before .before .before .before .before .before .before .before .before .before .before .before .before .before .before .before .before .before .before .before .before .before .before .before .before .before .before .before .before .args in
+    let m = tables (a .h) (a .l) (now (a .base)) (now (a .grown)) in
+    let (bad, left) = pieces-none m (c .before .before .before .before .before .before .before .before .before .before .before .before .before .before .before .before .pieces-number .ensures) (c .before .before .before .before .before .before .before .before .before .before .before .before .before .before .before .if2 .left) in
     rw (
-      is-4 ((c .before .before .before .before .before .before .before .before .before .before .before .before .before .before .before .before .before .before .before .before .before .before)) ∙ c .before .before .before .before .before .before .before .before .before .before .before .before .before .before .before .before .before .if1 .left,
-      sym (c .before .before .before .before .before .before .before .before .before .before .before .before .before .before .before .before .bad-base-records .ensures) ∙ c .before .before .before .before .before .before .before .before .before .before .before .before .before .before .before .if2 .left,
+      is-4 (((c .before .before .before .before .before .before .before .before .before .before .before .before .before .before .before .before .before .before .before .before .before .before))) ∙ c .before .before .before .before .before .before .before .before .before .before .before .before .before .before .before .before .before .if1 .left,
+      bad,
+      left,
       sym (c .before .before .before .before .before .before .before .before .before .before .before .before .before .before .bad-base-marks .ensures) ∙ c .before .before .before .before .before .before .before .before .before .before .before .before .before .if3 .left,
-      is-7 ((c .before .before .before .before .before .before .before .before .before .before)) ∙ c .before .before .before .before .before .if4 .left,
-      is-8 ((c .before .before .before)) ∙ c .if5 .left,
+      is-7 (((c .before .before .before .before .before .before .before .before .before .before))) ∙ c .before .before .before .before .before .if4 .left,
+      is-8 (((c .before .before .before))) ∙ c .if5 .left,
     )
 
 pub judged-base-spec : {M : Type 1} → statement M
