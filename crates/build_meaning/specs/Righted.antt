@@ -1,11 +1,11 @@
 -- Document 02, "Three": what the exchange of a left-handed piece's last two corners changes, and what it does not.
 use mathlib.Core.Path.{_≡_, refl, sym, ap, _∙_, subst}
-use mathlib.Core.Bool.{Bool, true, false, cond}
+use mathlib.Core.Bool.{Bool, cond}
 use mathlib.Core.Logic.{_≢_, ⊎-elim}
 use mathlib.Core.List.{List}
-use Prim.Native.Nat.{ℕ, zero, suc, _≤_, _<_}
+use Prim.Native.Nat.{ℕ, zero, suc, _<_}
 use native.Mathlib.Omega.{arith}
-use lib.ListN.{length, getD, List·getD-eq-default}
+use lib.ListN.{length}
 use lib.Dec.{eqb}
 use lib.IntN.{ℤ, pos, natAbs}
 use lib.Signed.{_<ℤ_}
@@ -18,7 +18,7 @@ use Rattle.grid_volume.specs.Volume.{signedOf, leftHanded, sixfoldOf}
 use Rattle.grid_volume.specs.Formal.{same-corners}
 use Rattle.grid_volume.specs.VolumeTheorems.{sixfold-exchanged}
 use Rattle.grid_volume.specs.Handed.{right-by-exchange, right-unless-left}
-use Rattle.check_meaning.specs.Accepted.{OnRecordFace, SameRecordFace}
+use Rattle.check_meaning.specs.Accepted.{SameRecordFace}
 use Rattle.build_marks.specs.Marking.{plainPoint, lastExchanged, rightedPiece}
 use Rattle.build_meaning.specs.Edges.{Different}
 

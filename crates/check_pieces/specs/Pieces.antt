@@ -1,14 +1,14 @@
 -- Refusals 5 and 22, tried in this order: of one base record, and of all. Assumes nothing.
 use mathlib.Core.Path.{_≡_, refl, sym, ap, _∙_}
 use mathlib.Core.Bool.{Bool, true, false, cond, _||_}
-use mathlib.Core.Logic.{_≢_, ⊎-elim}
+use mathlib.Core.Logic.{_≢_}
 use mathlib.Core.List.{[], _∷_}
 use Prim.Native.Nat.{ℕ, _+_, _≤_, _<_}
 use native.Mathlib.Nat.{le-antisymm}
 use native.Mathlib.Numerals.{add-one}
 use native.Mathlib.Omega.{arith}
 use lib.Dec.{eqb}
-use Rattle.laws.specs.Below.{anyBelow, any-none, any-suc, any-is, any-end, either}
+use Rattle.laws.specs.Below.{anyBelow, any-none, any-suc, any-is, any-end}
 use Rattle.laws.specs.Order.{row, firstBroken}
 use Rattle.mesh_tables.specs.Tables.{Tables, baseRecords}
 use Rattle.check_refusals.specs.Refusals.{badBaseRecord, badBaseRecords, leftHandedRecord, leftHandedRecords}

@@ -2,9 +2,8 @@
 -- Assumes nothing.
 use mathlib.Core.Path.{_≡_, refl, sym, ap, _∙_}
 use mathlib.Core.Bool.{false≢true}
-use mathlib.Core.Logic.{inl, inr}
 use mathlib.Core.List.{List, [], _∷_}
-use Prim.Native.Nat.{ℕ, _+_, _*_, _<_}
+use Prim.Native.Nat.{ℕ, _<_}
 use native.Mathlib.Nat.{le-refl}
 use native.Mathlib.Omega.{arith}
 use lib.ListN.{length}
@@ -12,8 +11,6 @@ use lib.IntN.{ℤ}
 use borrow.Author.Tests.{lt-ltb}
 use Rattle.stored.specs.Fitting.{U32}
 use Rattle.laws.specs.Below.{list-same}
-use Rattle.laws.specs.Pairs.{SamePair}
-use Rattle.piece_edges.specs.Edges.{lowSlot, highSlot, slots-small}
 use Rattle.laws.specs.Lists.{four-of}
 use Rattle.piece.specs.declared.Piece as Declared
 use Rattle.piece.specs.Shape.{shapeOf, mark}
@@ -23,7 +20,6 @@ use Rattle.check_meaning.specs.Accepted.{RightMarks}
 use Rattle.check_meaning.specs.Bases.{valid-marks}
 use Rattle.build_marks.specs.Marking.{plainVertex, plainPiece, rightedPiece, markedPiece, plainRecord}
 use Rattle.build_service.specs.Build.{plainHeader, plainMesh, plainBytes, buildNumber, buildBytes}
-use Rattle.build_meaning.specs.Edges.{Different}
 use Rattle.build_meaning.specs.Righted.{righted-four, righted-sixfold, righted-positive}
 use Rattle.build_meaning.specs.Marks.{marked-valid}
 use Rattle.build_meaning.specs.Shared.{shared-face-one-mark}

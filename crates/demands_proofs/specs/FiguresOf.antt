@@ -6,11 +6,10 @@ use mathlib.Core.List.{List, [], _∷_}
 use Prim.Native.Nat.{ℕ, zero, suc, _+_, _≤_, _<_, max}
 use native.Mathlib.Nat.{le-antisymm}
 use native.Mathlib.Omega.{arith}
-use lib.IntN.{natAbs}
 use lib.ListN.{length}
 use borrow.Author.Tests.{not-true, not-false}
 use Rattle.laws.specs.Below.{either, or-second, sumBelow, sum-same, sum-none, sum-suc, countBelow, count-none, count-suc, greatestBelow, greatest-none, greatest-suc}
-use Rattle.grid.specs.Places.{Point, pointOf, halfwayOf}
+use Rattle.grid.specs.Places.{pointOf, halfwayOf}
 use Rattle.grid.specs.GridTheorems.{halfway-exactly, halfway-only}
 use Rattle.build_meaning.specs.Righted.{sixfold-four}
 use Rattle.stored.specs.declared.Vertex.{Vertex}

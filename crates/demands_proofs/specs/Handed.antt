@@ -1,12 +1,11 @@
 -- Document 02, "Three": cutting halves the signed value, so that whatever is cut from a right-handed base is right-handed. Assumes nothing.
 use mathlib.Core.Path.{_≡_, refl, sym, ap, _∙_, fun-ext}
 use mathlib.Core.Bool.{Bool, true, false, cond}
-use mathlib.Core.Logic.{_≢_}
 use mathlib.Core.List.{List, [], _∷_}
 use Prim.Native.Nat.{ℕ, _≤_, _<_}
 use native.Mathlib.Omega.{arith}
 use lib.ListN.{length}
-use lib.IntN.{ℤ, pos, _*ℤ_}
+use lib.IntN.{pos, _*ℤ_}
 use lib.Signed.{_<ℤ_}
 use lib.Dec.{eqb}
 use Rattle.laws.specs.Below.{putAt}

@@ -1,15 +1,13 @@
 -- Each rule that build tries is broken exactly where what it asks of the base mesh of its lists does not hold.
 -- Assumes nothing.
 use mathlib.Core.Path.{_≡_, refl, sym, ap, _∙_, subst}
-use mathlib.Core.Logic.{_↔_, ⊎-elim}
+use mathlib.Core.Logic.{_↔_}
 use mathlib.Core.List.{List}
-use Prim.Native.Nat.{ℕ, zero, suc, _+_, _*_, _/_, _%_, _≤_, _<_}
+use Prim.Native.Nat.{ℕ, zero, suc, _+_, _*_, _/_, _%_, _<_}
 use native.Mathlib.Omega.{arith}
-use lib.ListN.{length, getD, List·getD-eq-default}
+use lib.ListN.{length, getD}
 use lib.IntN.{ℤ}
-use lib.Dec.{eqb, ltb}
-use borrow.Author.Tests.{ltb-true, ltb-false}
-use Rattle.laws.specs.Below.{either}
+use lib.Dec.{ltb}
 use Rattle.piece.specs.declared.Piece.{Piece}
 use Rattle.piece.specs.Ends.{cornerAt}
 use Rattle.grid.specs.Places.{Point, pointOf}
@@ -17,13 +15,13 @@ use Rattle.grid_volume.specs.Volume.{sixfoldOf}
 use Rattle.stored.specs.declared.Header.{Header}
 use Rattle.stored.specs.declared.Vertex.{Vertex}
 use Rattle.stored.specs.declared.Record.{Record}
-use Rattle.stored.specs.Layout.{none, storedNone, orNone, limits}
+use Rattle.stored.specs.Layout.{storedNone, limits}
 use Rattle.mesh_tables.specs.Tables as Check
 use Rattle.mesh_tables.specs.Tables.{baseVertices, allVertices, baseRecords, pieceAt, sixfoldAt}
 use Rattle.check_refusals.specs.Refusals.{wrongCounts, badVertices, badBaseFaces, unusedVertices}
 use Rattle.check_meaning.specs.Tests.{Fails, reads, equal, not-below, not-fails, or-fails}
 use Rattle.check_meaning.specs.Accepted as Accepted
-use Rattle.check_meaning.specs.Accepted.{OnGrid, markedEnds, RightBaseRecords}
+use Rattle.check_meaning.specs.Accepted.{OnGrid, markedEnds}
 use Rattle.check_meaning.specs.Vertices.{rule4-holds}
 use Rattle.check_meaning.specs.Faces.{rule7-holds, rule8-holds}
 use Rattle.build_marks.specs.Marking.{plainPlace, plainVertex, plainPiece, plainPoint, rightedPiece, markedPiece, plainRecord}

@@ -1,7 +1,6 @@
 -- Two base meshes that differ in the order of their pieces' corners alone: what is asked of corners and faces as sets holds of both or of neither.
 -- Assumes nothing.
 use mathlib.Core.Path.{_≡_, sym, ap, _∙_, subst}
-use mathlib.Core.Logic.{_≢_}
 use Prim.Native.Nat.{ℕ, _<_}
 use native.Mathlib.Omega.{arith}
 use Rattle.grid_volume.specs.Volume.{sixfoldOf}

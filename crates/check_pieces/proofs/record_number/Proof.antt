@@ -4,7 +4,6 @@ use borrow.Author.Needs.{needs}
 use borrow.Author.Tests.{eq-eqb, ne-eqb}
 use mathlib.Core.Path.{_≡_, sym, ap, _∙_}
 use mathlib.Core.Bool.{Bool}
-use lib.IntN.{ℤ}
 use lib.ListN.{getD}
 use lib.Dec.{eqb}
 use denote.Ref.{now}

@@ -1,11 +1,10 @@
 -- `grid_volume::is_flat`: the bits of a number are 0 exactly where it is.
 -- Assumes nothing.
 use mathlib.Core.Path.{_≡_, sym, ap, _∙_}
-use mathlib.Core.Bool.{true, false}
 use mathlib.Core.Logic.{⊎-elim}
 use lib.Dec.{eqb}
-use lib.IntN.{ℤ, pos, natAbs}
-use borrow.Author.Tests.{eqb-true, eqb-false, eq-eqb, ne-eqb}
+use lib.IntN.{ℤ, natAbs}
+use borrow.Author.Tests.{eqb-true, eqb-false, ne-eqb}
 use mir.Syntax.{w64}
 use mir.Val.{SFits, toZ, ofZ}
 use mir.Facts.{toZ-ofZ}

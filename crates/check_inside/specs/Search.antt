@@ -1,0 +1,319 @@
+-- What is found in the cells that a right-handed piece's box meets is what a search through all vertices would find. Assumes nothing.
+use mathlib.Core.Path.{_≡_, refl, sym, ap, _∙_, subst, subst₂, fun-ext}
+use mathlib.Core.Bool.{Bool, true, false, false≢true, not, _&&_, _||_}
+use mathlib.Core.List.{List, [], _∷_}
+use Prim.Native.Nat.{ℕ, zero, suc, _+_, _-_, _≤_, _<_}
+use native.Mathlib.Nat.{le-refl, mul-le-mul}
+use native.Mathlib.Omega.{arith}
+use lib.ListN.{length, getD, replicate, length-replicate}
+use lib.IntN.{pos}
+use lib.Signed.{_<ℤ_}
+use lib.Dec.{eqb, ltb}
+use lib.Ieee.Nearest.{div-mono}
+use borrow.Author.Tests.{eqb-true, eq-eqb, ltb-true, lt-ltb, le-leb}
+use Rattle.laws.specs.Below.{anyBelow, any-none, any-suc, any-is, any-where, any-same, foldBelow, allBelow}
+use Rattle.laws.specs.Links.{linkAt, link-down, anyAlong, any-along-none, any-along-on, Chain, linksOf, linkedBelow, linked-heads-long, zeros-at, chain-linked, chain-any, keyAmong, key-within, Roomy}
+use Rattle.piece.specs.declared.Piece.{Piece}
+use Rattle.grid.specs.declared.Place.{Place}
+use Rattle.grid.specs.Places.{Point, pointOf}
+use Rattle.grid_volume.specs.Volume.{differencesOf, signedOf, leftHanded}
+use Rattle.grid_inside.specs.Inside.{liesIn}
+use Rattle.grid_inside.specs.Box.{box-x, box-y, box-z}
+use Rattle.stored.specs.declared.Vertex.{Vertex}
+use Rattle.check_refusals.specs.Refusals.{hasCorner}
+use Rattle.check_inside.specs.declared.Cells.{Cells}
+use Rattle.check_inside.specs.declared.Slabs.{Slabs}
+use Rattle.check_inside.specs.declared.Asking.{Asking}
+use Rattle.check_inside.specs.Hanging.{hangsOn}
+use Rattle.check_inside.specs.Cells.{slabOf, slabsOf, cellNumber, placeKey, lowerOf, upperOf, askingOf, lowOf, highOf, isWithin, isCorner, standing, hangsAmong, hangsWithin, hangsBelow, anyWithin, inCell, inRow, inLayer, inBlock}
+
+-- ---- tests
+
+or-either : (a b : Bool) → (a || b) ≡ true → (Q : Type 0) → (a ≡ true → Q) → (b ≡ true → Q) → Q
+or-either true b e Q f g = f refl
+or-either false b e Q f g = g e
+
+or-first : (a b : Bool) → a ≡ true → (a || b) ≡ true
+or-first a b e = rw e
+
+or-second : (a b : Bool) → b ≡ true → (a || b) ≡ true
+or-second true b e = refl
+or-second false b e = e
+
+and-both : (a b : Bool) → a ≡ true → b ≡ true → (a && b) ≡ true
+and-both a b e f = rw (e, f)
+
+and-one : (a b : Bool) → (a && b) ≡ true → a ≡ true
+and-one true b e = refl
+and-one false b e = e
+
+and-two : (a b : Bool) → (a && b) ≡ true → b ≡ true
+and-two true b e = e
+and-two false b e = absurd (false≢true e)
+
+-- Two tests that pass each where the other does are one.
+same-test : (a b : Bool) → (a ≡ true → b ≡ true) → (b ≡ true → a ≡ true) → a ≡ b
+same-test true b f g = sym (f refl)
+same-test false true f g = g refl
+same-test false false f g = refl
+
+-- ---- along links
+
+module _ (nexts : List ℕ) (P : ℕ → Bool) where
+  along-where : (bound m : ℕ) → m ≤ bound → anyAlong nexts P m ≡ true → (u : ℕ) × (P u ≡ true)
+  along-where zero zero l e = absurd (false≢true (sym (any-along-none nexts P) ∙ e))
+  along-where zero (suc u) l e = absurd (omega arith)
+  along-where (suc bound) zero l e = absurd (false≢true (sym (any-along-none nexts P) ∙ e))
+  along-where (suc bound) (suc u) l e =
+      or-either (P u) (anyAlong nexts P (linkAt nexts u)) (sym (any-along-on nexts P u) ∙ e) ((u : ℕ) × (P u ≡ true))
+      (λ here. (u, here))
+      (λ later. along-where bound (linkAt nexts u) (omega (arith, link-down nexts u)) later)
+
+  along-more : (Q : ℕ → Bool) → ((u : ℕ) → P u ≡ true → Q u ≡ true) → (bound m : ℕ) → m ≤ bound → anyAlong nexts P m ≡ true → anyAlong nexts Q m ≡ true
+  along-more Q more zero zero l e = absurd (false≢true (sym (any-along-none nexts P) ∙ e))
+  along-more Q more zero (suc u) l e = absurd (omega arith)
+  along-more Q more (suc bound) zero l e = absurd (false≢true (sym (any-along-none nexts P) ∙ e))
+  along-more Q more (suc bound) (suc u) l e =
+      any-along-on nexts Q u
+      ∙ or-either (P u) (anyAlong nexts P (linkAt nexts u)) (sym (any-along-on nexts P u) ∙ e) ((Q u || anyAlong nexts Q (linkAt nexts u)) ≡ true)
+      (λ here. or-first (Q u) _ (more u here))
+      (λ later. or-second (Q u) _ (along-more Q more bound (linkAt nexts u) (omega (arith, link-down nexts u)) later))
+
+-- What has a key is found from its head on.
+chain-finds : (key : ℕ → ℕ) (n : ℕ) (heads nexts : List ℕ) → Chain key n heads nexts → (P : ℕ → Bool) (v : ℕ) → v < n → key v < length heads → P v ≡ true →
+    anyAlong nexts P (getD heads (key v) 0) ≡ true
+chain-finds key n heads nexts c P v l within here =
+    let k = key v in
+    let Q : ℕ → Bool = λ u. eqb (key u) k && P u in
+    along-more nexts Q P (λ u e. and-two (eqb (key u) k) (P u) e) (getD heads k 0) (getD heads k 0) (le-refl (getD heads k 0))
+    (chain-any key n heads nexts c Q k within (λ u b e. eqb-true (key u) k (and-one (eqb (key u) k) (P u) e))
+    ∙ any-is Q n v l (and-both (eqb k k) (P v) (eq-eqb k k refl) here))
+
+-- ---- from one number to another
+
+module _ (from to : ℕ) (P : ℕ → Bool) where
+  pub within-is : (x : ℕ) → from ≤ x → x ≤ to → P x ≡ true → anyWithin from to P ≡ true
+  unfolding anyWithin
+  within-is x l h e =
+      let at : from + (x - from) ≡ x = omega arith in
+      any-is (λ i. P (from + i)) (to + 1 - from) (x - from) (omega arith) (ap P at ∙ e)
+
+  within-where : anyWithin from to P ≡ true → (x : ℕ) × (P x ≡ true)
+  unfolding anyWithin
+  within-where e = let (i, l, h) = any-where (λ i. P (from + i)) (to + 1 - from) e in (from + i, h)
+
+  -- As a loop goes through them: none before x.
+  pub within-none : anyBelow (from - from) (λ i. P (from + i)) ≡ false
+  within-none = let none : from - from ≡ 0 = omega arith in rw none (any-none (λ i. P (from + i)))
+
+  pub within-next : (x : ℕ) → from ≤ x → anyBelow (x - from) (λ i. P (from + i)) ≡ false → P x ≡ false → anyBelow (x + 1 - from) (λ i. P (from + i)) ≡ false
+  within-next x l none here =
+      let more : x + 1 - from ≡ suc (x - from) = omega arith in
+      let at : from + (x - from) ≡ x = omega arith in
+      rw (more, any-suc (λ i. P (from + i)) (x - from), none) (ap P at ∙ here)
+
+  pub within-end : (x : ℕ) → to < x → from ≤ x → x - from ≤ to + 1 - from → anyBelow (x - from) (λ i. P (from + i)) ≡ false → anyWithin from to P ≡ false
+  unfolding anyWithin
+  within-end x past l least none =
+      let same : x - from ≡ to + 1 - from = omega arith in
+      subst (λ (n : ℕ). anyBelow n (λ i. P (from + i)) ≡ false) same none
+
+-- ---- in a block of cells
+
+module _ (heads nexts : List ℕ) (P : ℕ → Bool) (from to : Slabs) where
+  block-where : inBlock heads nexts P from to ≡ true → (u : ℕ) × (P u ≡ true)
+  unfolding inBlock inLayer inRow inCell
+  block-where e =
+      let (z, ez) = within-where (from .z) (to .z) (inLayer heads nexts P from to) e in
+      let (y, ey) = within-where (from .y) (to .y) (λ y. inRow heads nexts P from to y z) ez in
+      let (x, ex) = within-where (from .x) (to .x) (λ x. inCell heads nexts P x y z) ey in
+      let head = getD heads (keyAmong (length heads) (cellNumber x y z)) 0 in
+      along-where nexts P head head (le-refl head) ex
+
+  block-is : (s : Slabs) → from .x ≤ s .x → s .x ≤ to .x → from .y ≤ s .y → s .y ≤ to .y → from .z ≤ s .z → s .z ≤ to .z →
+      inCell heads nexts P (s .x) (s .y) (s .z) ≡ true → inBlock heads nexts P from to ≡ true
+  unfolding inBlock inLayer inRow
+  block-is s fx tx fy ty fz tz e =
+      within-is (from .z) (to .z) (inLayer heads nexts P from to) (s .z) fz tz
+      (within-is (from .y) (to .y) (λ y. inRow heads nexts P from to y (s .z)) (s .y) fy ty
+      (within-is (from .x) (to .x) (λ x. inCell heads nexts P x (s .y) (s .z)) (s .x) fx tx e))
+
+-- ---- cells rise with coordinates
+
+slab-rises : (least width x y : ℕ) → x ≤ y → slabOf least width x ≤ slabOf least width y
+unfolding slabOf
+slab-rises least width x y l =
+    div-mono (x - least) (width + 1) (y - least) (width + 1) (omega arith) (omega arith) (mul-le-mul (omega arith) (le-refl (width + 1)))
+
+module _ (cells : Cells) (p r : Place) where
+  slab-x : p .x ≤ r .x → slabsOf cells p .x ≤ slabsOf cells r .x
+  unfolding slabsOf
+  slab-x = slab-rises (cells .least .x) (cells .width) (p .x) (r .x)
+
+  slab-y : p .y ≤ r .y → slabsOf cells p .y ≤ slabsOf cells r .y
+  unfolding slabsOf
+  slab-y = slab-rises (cells .least .y) (cells .width) (p .y) (r .y)
+
+  slab-z : p .z ≤ r .z → slabsOf cells p .z ≤ slabsOf cells r .z
+  unfolding slabsOf
+  slab-z = slab-rises (cells .least .z) (cells .width) (p .z) (r .z)
+
+-- ---- the box
+
+-- The corners' places by their slots.
+abbrev placesOf : Asking → ℕ → Place
+placesOf q k = getD (q .a .place ∷ q .b .place ∷ q .c .place ∷ q .d .place ∷ []) k (q .a .place)
+
+stand-so : (q : Asking) → (λ (k : ℕ). pointOf (placesOf q k)) ≡ standing q
+stand-so q = fun-ext at
+  where
+    at : (k : ℕ) → pointOf (placesOf q k) ≡ standing q k
+    at zero = refl
+    at (suc zero) = refl
+    at (suc (suc zero)) = refl
+    at (suc (suc (suc zero))) = refl
+    at (suc (suc (suc (suc k)))) = refl
+
+module _ (q : Asking) where
+  low-least : (k : ℕ) → k < 4 → (lowOf q .x ≤ placesOf q k .x) × (lowOf q .y ≤ placesOf q k .y) × (lowOf q .z ≤ placesOf q k .z)
+  unfolding lowOf lowerOf
+  low-least zero l = (omega arith, omega arith, omega arith)
+  low-least (suc zero) l = (omega arith, omega arith, omega arith)
+  low-least (suc (suc zero)) l = (omega arith, omega arith, omega arith)
+  low-least (suc (suc (suc zero))) l = (omega arith, omega arith, omega arith)
+  low-least (suc (suc (suc (suc k)))) l = absurd (omega arith)
+
+  high-most : (k : ℕ) → k < 4 → (placesOf q k .x ≤ highOf q .x) × (placesOf q k .y ≤ highOf q .y) × (placesOf q k .z ≤ highOf q .z)
+  unfolding highOf upperOf
+  high-most zero l = (omega arith, omega arith, omega arith)
+  high-most (suc zero) l = (omega arith, omega arith, omega arith)
+  high-most (suc (suc zero)) l = (omega arith, omega arith, omega arith)
+  high-most (suc (suc (suc zero))) l = (omega arith, omega arith, omega arith)
+  high-most (suc (suc (suc (suc k)))) l = absurd (omega arith)
+
+  module _ (right : pos 0 <ℤ signedOf (standing q)) (p : Place) (lies : liesIn (standing q) (pointOf p) ≡ true) where
+    right′ : pos 0 <ℤ signedOf (λ k. pointOf (placesOf q k))
+    right′ = subst (λ (f : ℕ → Point). pos 0 <ℤ signedOf f) (sym (stand-so q)) right
+
+    lies′ : liesIn (λ k. pointOf (placesOf q k)) (pointOf p) ≡ true
+    lies′ = subst (λ (f : ℕ → Point). liesIn f (pointOf p) ≡ true) (sym (stand-so q)) lies
+
+    in-x : (lowOf q .x ≤ p .x) × (p .x ≤ highOf q .x)
+    in-x = box-x (placesOf q) p right′ lies′ (lowOf q .x) (highOf q .x) (λ k l. low-least k l .0) (λ k l. high-most k l .0)
+
+    in-y : (lowOf q .y ≤ p .y) × (p .y ≤ highOf q .y)
+    in-y = box-y (placesOf q) p right′ lies′ (lowOf q .y) (highOf q .y) (λ k l. low-least k l .1) (λ k l. high-most k l .1)
+
+    in-z : (lowOf q .z ≤ p .z) × (p .z ≤ highOf q .z)
+    in-z = box-z (placesOf q) p right′ lies′ (lowOf q .z) (highOf q .z) (λ k l. low-least k l .2) (λ k l. high-most k l .2)
+
+    pub is-within : isWithin (lowOf q) (highOf q) p ≡ true
+    unfolding isWithin
+    is-within =
+        rw (le-leb _ _ (in-x .0), le-leb _ _ (in-x .1), le-leb _ _ (in-y .0), le-leb _ _ (in-y .1), le-leb _ _ (in-z .0), le-leb _ _ (in-z .1))
+
+-- ---- what a right-handed piece finds
+
+module _ (vertexAt : ℕ → Vertex) (count : ℕ) (q : Asking) (cells : Cells) (heads nexts : List ℕ) (some : 0 < length heads)
+    (c : Chain (λ v. placeKey (length heads) cells (vertexAt v .place)) count heads nexts) (right : pos 0 <ℤ signedOf (standing q)) where
+  abbrev asked : ℕ → Bool
+  asked = hangsBelow vertexAt count q (lowOf q) (highOf q)
+
+  abbrev plain : ℕ → Bool
+  plain u = hangsAmong q u (vertexAt u .place)
+
+  asked-plain : (u : ℕ) → asked u ≡ true → (u < count) × (plain u ≡ true)
+  unfolding hangsBelow hangsWithin hangsAmong
+  asked-plain u e =
+      let corner = not (isCorner q u) in
+      let box = isWithin (lowOf q) (highOf q) (vertexAt u .place) in
+      let lies = liesIn (standing q) (pointOf (vertexAt u .place)) in
+      let both = and-two (ltb u count) (corner && box && lies) e in (
+        ltb-true u count (and-one (ltb u count) (corner && box && lies) e),
+        and-both corner lies (and-one corner box (and-one (corner && box) lies both)) (and-two (corner && box) lies both),
+      )
+
+  plain-asked : (u : ℕ) → u < count → plain u ≡ true → asked u ≡ true
+  unfolding hangsBelow hangsWithin hangsAmong
+  plain-asked u l e =
+      let corner = not (isCorner q u) in
+      let place = vertexAt u .place in
+      let lies = liesIn (standing q) (pointOf place) in
+      let in-it = and-two corner lies e in
+      and-both (ltb u count) _ (lt-ltb u count l)
+      (and-both (corner && isWithin (lowOf q) (highOf q) place) lies (and-both corner _ (and-one corner lies e) (is-within q right place in-it)) in-it)
+
+  -- What is asked is found in its own cell.
+  in-own-cell : (u : ℕ) → u < count → asked u ≡ true → let s = slabsOf cells (vertexAt u .place) in inCell heads nexts asked (s .x) (s .y) (s .z) ≡ true
+  unfolding inCell placeKey
+  in-own-cell u l e =
+      let s = slabsOf cells (vertexAt u .place) in
+      chain-finds (λ v. placeKey (length heads) cells (vertexAt v .place)) count heads nexts c asked u l (key-within (length heads) (cellNumber (s .x) (s .y) (s .z)) some) e
+
+  -- A vertex that hangs on the piece is in a cell that its box meets.
+  found : (u : ℕ) → u < count → plain u ≡ true → inBlock heads nexts asked (slabsOf cells (lowOf q)) (slabsOf cells (highOf q)) ≡ true
+  unfolding hangsAmong
+  found u l e =
+      let place = vertexAt u .place in
+      let lies = and-two (not (isCorner q u)) (liesIn (standing q) (pointOf place)) e in
+      let x = in-x q right place lies in
+      let y = in-y q right place lies in
+      let z = in-z q right place lies in
+      block-is heads nexts asked (slabsOf cells (lowOf q)) (slabsOf cells (highOf q)) (slabsOf cells place)
+      (slab-x cells (lowOf q) place (x .0)) (slab-x cells place (highOf q) (x .1))
+      (slab-y cells (lowOf q) place (y .0)) (slab-y cells place (highOf q) (y .1))
+      (slab-z cells (lowOf q) place (z .0)) (slab-z cells place (highOf q) (z .1))
+      (in-own-cell u l (plain-asked u l e))
+
+  pub block-found : inBlock heads nexts (hangsBelow vertexAt count q (lowOf q) (highOf q)) (slabsOf cells (lowOf q)) (slabsOf cells (highOf q)) ≡ anyBelow count (λ u. hangsAmong q u (vertexAt u .place))
+  block-found =
+      same-test _ _
+      (λ e. let (u, a) = block-where heads nexts asked (slabsOf cells (lowOf q)) (slabsOf cells (highOf q)) e in
+      let (l, p) = asked-plain u a in
+      any-is plain count u l p)
+      (λ e. let (u, l, p) = any-where plain count e in found u l p)
+
+-- ---- a record's piece asks as it is
+
+pub asking-hangs : (vertexAt : ℕ → Vertex) (p : Piece) (v : ℕ) → hangsAmong (askingOf vertexAt p) v (vertexAt v .place) ≡ hangsOn vertexAt p v
+unfolding hangsAmong askingOf hangsOn isCorner hasCorner liesIn leftHanded differencesOf anyBelow allBelow foldBelow
+asking-hangs vertexAt p v = refl
+
+pub asking-signed : (vertexAt : ℕ → Vertex) (p : Piece) → signedOf (standing (askingOf vertexAt p)) ≡ signedOf (λ k. pointOf (vertexAt (getD (p .corners) k 0) .place))
+unfolding askingOf differencesOf
+asking-signed vertexAt p = refl
+
+-- So what all vertices answer is what the definition asks.
+pub all-asked : (vertexAt : ℕ → Vertex) (p : Piece) (count : ℕ) {q : Asking} → q ≡ askingOf vertexAt p →
+    anyBelow count (λ u. hangsAmong q u (vertexAt u .place)) ≡ anyBelow count (hangsOn vertexAt p)
+all-asked vertexAt p count is =
+    ap (λ (q : Asking). anyBelow count (λ u. hangsAmong q u (vertexAt u .place))) is
+    ∙ any-same count (λ u. hangsAmong (askingOf vertexAt p) u (vertexAt u .place)) (hangsOn vertexAt p) (λ u l. asking-hangs vertexAt p u)
+
+-- And what the cells answer.
+pub cells-asked : (vertexAt : ℕ → Vertex) (p : Piece) (count : ℕ) {q : Asking} (cells : Cells) (heads nexts : List ℕ) {low high : Place} {from to : Slabs} →
+    q ≡ askingOf vertexAt p → 0 < length heads → Chain (λ v. placeKey (length heads) cells (vertexAt v .place)) count heads nexts → pos 0 <ℤ signedOf (standing q) →
+    low ≡ lowOf q → high ≡ highOf q → from ≡ slabsOf cells low → to ≡ slabsOf cells high →
+    inBlock heads nexts (hangsBelow vertexAt count q low high) from to ≡ anyBelow count (hangsOn vertexAt p)
+cells-asked vertexAt p count {q} cells heads nexts is some c right least most from-is to-is =
+    (λ i. inBlock heads nexts (hangsBelow vertexAt count q (least i) (most i)) ((from-is ∙ ap (slabsOf cells) least) i) ((to-is ∙ ap (slabsOf cells) most) i))
+    ∙ block-found vertexAt count q cells heads nexts some c right
+    ∙ all-asked vertexAt p count is
+
+-- ---- the links
+
+-- Where there is room, what is linked from cleared heads on is a chain by cells.
+pub cells-linked : (vertexAt : ℕ → Vertex) (cells : Cells) (count : ℕ) (heads nexts cleared heads′ nexts′ : List ℕ) → Roomy heads nexts count → cleared ≡ replicate (length heads) 0 →
+    heads′ ≡ linkedBelow (λ v. placeKey (length cleared) cells (vertexAt v .place)) (linksOf cleared nexts) count .heads →
+    nexts′ ≡ linkedBelow (λ v. placeKey (length cleared) cells (vertexAt v .place)) (linksOf cleared nexts) count .nexts →
+    (0 < length heads′) × Chain (λ v. placeKey (length heads′) cells (vertexAt v .place)) count heads′ nexts′
+cells-linked vertexAt cells count heads nexts cleared heads′ nexts′ room clear heads-are nexts-are =
+    let key : ℕ → ℕ → ℕ = λ keys v. placeKey keys cells (vertexAt v .place) in
+    let same : length heads′ ≡ length cleared = ap length heads-are ∙ linked-heads-long (key (length cleared)) (linksOf cleared nexts) count in
+    let long : length cleared ≡ length heads = ap length clear ∙ length-replicate {A = ℕ} (length heads) 0 in
+    let zeros : (k : ℕ) → getD cleared k 0 ≡ 0 = λ k. ap (λ (t : List ℕ). getD t k 0) clear ∙ zeros-at (length heads) k in (
+      omega (arith, same, long, room .keys),
+      subst (λ (keys : ℕ). Chain (key keys) count heads′ nexts′) (sym same)
+          (subst₂ (λ (a b : List ℕ). Chain (key (length cleared)) count a b) (sym heads-are) (sym nexts-are)
+          (chain-linked (key (length cleared)) (linksOf cleared nexts) count zeros (room .places) (room .fits))),
+    )

@@ -1,0 +1,582 @@
+// Refusal 23: a base vertex that hangs on a base piece. Base vertices are linked by cells of one width, and a piece asks those in the cells that its box meets.
+use grid::Place;
+use stored::Header;
+use stored::Layout;
+ghost use mathlib.Core.Path.{_≡_};
+ghost use mathlib.Core.Bool.{_||_};
+ghost use Prim.Native.Nat.{_<_, min, max};
+ghost use lib.ListN.{length};
+ghost use Rattle.laws.specs.Below.{anyBelow};
+ghost use Rattle.laws.specs.Links.{linksOf, linkedBelow, short, Chain};
+ghost use Rattle.grid.specs.Places.{pointOf};
+ghost use Rattle.grid_inside.specs.Inside.{liesIn};
+ghost use Rattle.stored.specs.Layout.{vertexIn, recordIn};
+ghost use Rattle.mesh_tables.specs.Tables.{tables};
+ghost use Rattle.check_inside.specs.Hanging.{hangsOn, hangingVertices};
+ghost use Rattle.check_inside.specs.Cells.{slabOf, slabsOf, cellNumber, placeKey, lowerOf, upperOf, askingOf, standing, isCorner, isWithin, hangsAmong, hangsBelow, inCell, inRow, inLayer, inBlock};
+
+// Where the cells begin, and one less than their width.
+struct Cells {
+    least: Place,
+    width: u16,
+}
+
+// The numbers of a cell along the three axes.
+struct Slabs {
+    x: u32,
+    y: u32,
+    z: u32,
+}
+
+// A corner: its vertex number, and where it stands.
+struct Corner {
+    number: u32,
+    place: Place,
+}
+
+// A piece that asks, by its corners in slots 0 to 3.
+struct Asking {
+    a: Corner,
+    b: Corner,
+    c: Corner,
+    d: Corner,
+}
+
+fn least(a: u16, b: u16) -> u16
+    ensures { λ r. ⌜ r ≡ min a b ⌝ }
+{
+    if a < b { a } else { b }
+}
+
+fn greatest(a: u16, b: u16) -> u16
+    ensures { λ r. ⌜ r ≡ max a b ⌝ }
+{
+    if a < b { b } else { a }
+}
+
+fn lower(p: Place, q: Place) -> Place
+    ensures { λ r. ⌜ r ≡ lowerOf p q ⌝ }
+{
+    Place {
+        x: least(p.x, q.x),
+        y: least(p.y, q.y),
+        z: least(p.z, q.z),
+    }
+}
+
+fn upper(p: Place, q: Place) -> Place
+    ensures { λ r. ⌜ r ≡ upperOf p q ⌝ }
+{
+    Place {
+        x: greatest(p.x, q.x),
+        y: greatest(p.y, q.y),
+        z: greatest(p.z, q.z),
+    }
+}
+
+// The number of a cell along one axis.
+fn slab(least: u16, width: u16, x: u16) -> u32
+    ensures { λ r. ⌜ r ≡ slabOf least width x ⌝ }
+{
+    if x < least {
+        return 0;
+    }
+    (x - least) as u32 / (width as u32 + 1)
+}
+
+fn slabs_of(cells: Cells, p: Place) -> Slabs
+    ensures { λ r. ⌜ r ≡ slabsOf cells p ⌝ }
+{
+    let least = cells.least;
+    Slabs {
+        x: slab(least.x, cells.width, p.x),
+        y: slab(least.y, cells.width, p.y),
+        z: slab(least.z, cells.width, p.z),
+    }
+}
+
+fn cell_number(x: u32, y: u32, z: u32) -> usize
+    ensures { λ r. ⌜ r ≡ cellNumber x y z ⌝ }
+{
+    x as usize + 31 * (y as usize) + 961 * (z as usize)
+}
+
+fn place_key(keys: usize, cells: Cells, p: Place) -> usize
+    ensures { λ r. ⌜ r ≡ placeKey keys cells p ⌝ }
+{
+    let s = slabs_of(cells, p);
+    chains::key(cell_number(s.x, s.y, s.z), keys)
+}
+
+// The first so many vertices, one after the other.
+fn link_all<'a>(
+    l: Layout,
+    base: &'a [u8],
+    grown: &'a [u8],
+    count: usize,
+    cells: Cells,
+    heads: &mut [u16],
+    nexts: &mut [u16],
+)
+    ensures { λ _. ⌜ now (heads .exit) ≡ linkedBelow (λ v. placeKey (length (now (heads .entry))) cells (vertexIn l (now (base .entry)) (now (grown .entry)) v .place)) (linksOf (now (heads .entry)) (now (nexts .entry))) count .heads ⌝ }
+    ensures { λ _. ⌜ now (nexts .exit) ≡ linkedBelow (λ v. placeKey (length (now (heads .entry))) cells (vertexIn l (now (base .entry)) (now (grown .entry)) v .place)) (linksOf (now (heads .entry)) (now (nexts .entry))) count .nexts ⌝ }
+{
+    let mut v: usize = 0;
+    while v < count {
+        let place = stored_entries::place_in(l, base, grown, v);
+        let key = place_key(heads.len(), cells, place);
+        chains::push(heads, nexts, key, v);
+        v += 1;
+    }
+}
+
+fn corner_of<'a>(l: Layout, base: &'a [u8], grown: &'a [u8], number: u32) -> Corner
+    ensures { λ r. ⌜ r ≡ record { number = number; place = vertexIn l (now (base .entry)) (now (grown .entry)) number .place } ⌝ }
+{
+    let place = stored_entries::place_in(l, base, grown, number as usize);
+    Corner {
+        number: number,
+        place: place,
+    }
+}
+
+fn asking_of<'a>(l: Layout, base: &'a [u8], grown: &'a [u8], n: usize) -> Asking
+    ensures { λ r. ⌜ r ≡ askingOf (vertexIn l (now (base .entry)) (now (grown .entry))) (recordIn l (now (base .entry)) (now (grown .entry)) n .piece) ⌝ }
+{
+    let corners = stored_entries::corners_in(l, base, grown, n);
+    let a = corner_of(l, base, grown, corners[0]);
+    let b = corner_of(l, base, grown, corners[1]);
+    let c = corner_of(l, base, grown, corners[2]);
+    let d = corner_of(l, base, grown, corners[3]);
+    Asking {
+        a: a,
+        b: b,
+        c: c,
+        d: d,
+    }
+}
+
+fn is_corner(q: Asking, v: u32) -> bool
+    ensures { λ r. ⌜ r ≡ isCorner q v ⌝ }
+{
+    let a = q.a;
+    if a.number == v {
+        return true;
+    }
+    let b = q.b;
+    if b.number == v {
+        return true;
+    }
+    let c = q.c;
+    if c.number == v {
+        return true;
+    }
+    let d = q.d;
+    d.number == v
+}
+
+// Whether what stands here lies in the closed piece: each corner in turn is replaced by it.
+fn lies_in(q: Asking, place: Place) -> bool
+    ensures { λ r. ⌜ r ≡ liesIn (standing q) (pointOf place) ⌝ }
+{
+    let qa = q.a;
+    let qb = q.b;
+    let qc = q.c;
+    let qd = q.d;
+    let a = qa.place;
+    let b = qb.place;
+    let c = qc.place;
+    let d = qd.place;
+    if grid_volume::is_negative(grid_volume::signed(place, b, c, d)) {
+        return false;
+    }
+    if grid_volume::is_negative(grid_volume::signed(a, place, c, d)) {
+        return false;
+    }
+    if grid_volume::is_negative(grid_volume::signed(a, b, place, d)) {
+        return false;
+    }
+    !grid_volume::is_negative(grid_volume::signed(a, b, c, place))
+}
+
+fn is_within(low: Place, high: Place, p: Place) -> bool
+    ensures { λ r. ⌜ r ≡ isWithin low high p ⌝ }
+{
+    if p.x < low.x {
+        return false;
+    }
+    if high.x < p.x {
+        return false;
+    }
+    if p.y < low.y {
+        return false;
+    }
+    if high.y < p.y {
+        return false;
+    }
+    if p.z < low.z {
+        return false;
+    }
+    p.z <= high.z
+}
+
+// Whether vertex u hangs on the piece, wherever it stands.
+fn hangs<'a>(l: Layout, base: &'a [u8], grown: &'a [u8], q: Asking, u: u32) -> bool
+    ensures { λ r. ⌜ r ≡ hangsAmong q u (vertexIn l (now (base .entry)) (now (grown .entry)) u .place) ⌝ }
+{
+    if is_corner(q, u) {
+        return false;
+    }
+    lies_in(q, stored_entries::place_in(l, base, grown, u as usize))
+}
+
+// Whether vertex u is one of the first so many, stands in the box and hangs on the piece.
+fn hangs_below<'a>(
+    l: Layout,
+    base: &'a [u8],
+    grown: &'a [u8],
+    count: u32,
+    q: Asking,
+    low: Place,
+    high: Place,
+    u: usize,
+) -> bool
+    ensures { λ r. ⌜ r ≡ hangsBelow (vertexIn l (now (base .entry)) (now (grown .entry))) count q low high u ⌝ }
+{
+    if count as usize <= u {
+        return false;
+    }
+    if is_corner(q, u as u32) {
+        return false;
+    }
+    let place = stored_entries::place_in(l, base, grown, u);
+    if !is_within(low, high, place) {
+        return false;
+    }
+    lies_in(q, place)
+}
+
+// Of the first so many vertices, all are asked.
+fn any_vertex<'a>(l: Layout, base: &'a [u8], grown: &'a [u8], count: u32, q: Asking) -> bool
+    ensures { λ r. ⌜ r ≡ anyBelow count (λ u. hangsAmong q u (vertexIn l (now (base .entry)) (now (grown .entry)) u .place)) ⌝ }
+{
+    let mut u: u32 = 0;
+    while u < count {
+        if hangs(l, base, grown, q, u) {
+            return true;
+        }
+        u += 1;
+    }
+    false
+}
+
+// Those in one cell.
+fn any_in_cell<'a>(
+    l: Layout,
+    base: &'a [u8],
+    grown: &'a [u8],
+    heads: &'a [u16],
+    nexts: &'a [u16],
+    count: u32,
+    q: Asking,
+    low: Place,
+    high: Place,
+    x: u32,
+    y: u32,
+    z: u32,
+) -> bool
+    ensures { λ r. ⌜ r ≡ inCell (now (heads .entry)) (now (nexts .entry)) (hangsBelow (vertexIn l (now (base .entry)) (now (grown .entry))) count q low high) x y z ⌝ }
+{
+    let mut to = chains::first(heads, cell_number(x, y, z));
+    while 0 < to {
+        let u = to - 1;
+        if hangs_below(l, base, grown, count, q, low, high, u) {
+            return true;
+        }
+        to = chains::link(nexts, u);
+    }
+    false
+}
+
+// Those in a row of cells, in a layer and in a block.
+fn any_in_row<'a>(
+    l: Layout,
+    base: &'a [u8],
+    grown: &'a [u8],
+    heads: &'a [u16],
+    nexts: &'a [u16],
+    count: u32,
+    q: Asking,
+    low: Place,
+    high: Place,
+    from: Slabs,
+    to: Slabs,
+    y: u32,
+    z: u32,
+) -> bool
+    ensures { λ r. ⌜ r ≡ inRow (now (heads .entry)) (now (nexts .entry)) (hangsBelow (vertexIn l (now (base .entry)) (now (grown .entry))) count q low high) from to y z ⌝ }
+{
+    let end = to.x as usize;
+    let mut x = from.x as usize;
+    while x <= end {
+        if any_in_cell(
+            l,
+            base,
+            grown,
+            heads,
+            nexts,
+            count,
+            q,
+            low,
+            high,
+            x as u32,
+            y,
+            z,
+        ) {
+            return true;
+        }
+        x += 1;
+    }
+    false
+}
+
+fn any_in_layer<'a>(
+    l: Layout,
+    base: &'a [u8],
+    grown: &'a [u8],
+    heads: &'a [u16],
+    nexts: &'a [u16],
+    count: u32,
+    q: Asking,
+    low: Place,
+    high: Place,
+    from: Slabs,
+    to: Slabs,
+    z: u32,
+) -> bool
+    ensures { λ r. ⌜ r ≡ inLayer (now (heads .entry)) (now (nexts .entry)) (hangsBelow (vertexIn l (now (base .entry)) (now (grown .entry))) count q low high) from to z ⌝ }
+{
+    let end = to.y as usize;
+    let mut y = from.y as usize;
+    while y <= end {
+        if any_in_row(
+            l,
+            base,
+            grown,
+            heads,
+            nexts,
+            count,
+            q,
+            low,
+            high,
+            from,
+            to,
+            y as u32,
+            z,
+        ) {
+            return true;
+        }
+        y += 1;
+    }
+    false
+}
+
+fn any_in_block<'a>(
+    l: Layout,
+    base: &'a [u8],
+    grown: &'a [u8],
+    heads: &'a [u16],
+    nexts: &'a [u16],
+    count: u32,
+    q: Asking,
+    low: Place,
+    high: Place,
+    from: Slabs,
+    to: Slabs,
+) -> bool
+    ensures { λ r. ⌜ r ≡ inBlock (now (heads .entry)) (now (nexts .entry)) (hangsBelow (vertexIn l (now (base .entry)) (now (grown .entry))) count q low high) from to ⌝ }
+{
+    let end = to.z as usize;
+    let mut z = from.z as usize;
+    while z <= end {
+        if any_in_layer(
+            l,
+            base,
+            grown,
+            heads,
+            nexts,
+            count,
+            q,
+            low,
+            high,
+            from,
+            to,
+            z as u32,
+        ) {
+            return true;
+        }
+        z += 1;
+    }
+    false
+}
+
+// Record n: where it is right-handed, what lies in it lies in its box, and the cells that the box meets are asked.
+fn record_hangs<'a>(
+    l: Layout,
+    base: &'a [u8],
+    grown: &'a [u8],
+    heads: &'a [u16],
+    nexts: &'a [u16],
+    count: u32,
+    cells: Cells,
+    n: usize,
+) -> bool
+    ensures { λ r. ⌜ (0 < length (now (heads .entry)) → Chain (λ v. placeKey (length (now (heads .entry))) cells (vertexIn l (now (base .entry)) (now (grown .entry)) v .place)) count (now (heads .entry)) (now (nexts .entry)) → r ≡ anyBelow count (hangsOn (vertexIn l (now (base .entry)) (now (grown .entry))) (recordIn l (now (base .entry)) (now (grown .entry)) n .piece))) ⌝ }
+{
+    let q = asking_of(l, base, grown, n);
+    let qa = q.a;
+    let qb = q.b;
+    let qc = q.c;
+    let qd = q.d;
+    let a = qa.place;
+    let b = qb.place;
+    let c = qc.place;
+    let d = qd.place;
+    let signed = grid_volume::signed(a, b, c, d);
+    if grid_volume::is_flat(signed) {
+        return any_vertex(l, base, grown, count, q);
+    }
+    if grid_volume::is_negative(signed) {
+        return any_vertex(l, base, grown, count, q);
+    }
+    let low = lower(lower(a, b), lower(c, d));
+    let high = upper(upper(a, b), upper(c, d));
+    let from = slabs_of(cells, low);
+    let to = slabs_of(cells, high);
+    any_in_block(l, base, grown, heads, nexts, count, q, low, high, from, to)
+}
+
+// The least coordinates of so many vertices, and the greatest.
+fn least_place<'a>(l: Layout, base: &'a [u8], grown: &'a [u8], count: usize) -> Place {
+    let mut found = stored_entries::place_in(l, base, grown, 0);
+    let mut v: usize = 1;
+    while v < count {
+        found = lower(found, stored_entries::place_in(l, base, grown, v));
+        v += 1;
+    }
+    found
+}
+
+fn greatest_place<'a>(l: Layout, base: &'a [u8], grown: &'a [u8], count: usize) -> Place {
+    let mut found = stored_entries::place_in(l, base, grown, 0);
+    let mut v: usize = 1;
+    while v < count {
+        found = upper(found, stored_entries::place_in(l, base, grown, v));
+        v += 1;
+    }
+    found
+}
+
+// How far it is from one coordinate to another.
+fn extent(from: u16, to: u16) -> u16 {
+    if to < from {
+        return 0;
+    }
+    to - from
+}
+
+// How many cells of a width there are along an axis, less one.
+fn cells_along(extent: u16, width: u16) -> u16 {
+    (extent as u32 / (width as u32 + 1)) as u16
+}
+
+// Whether there are more of them than so many, in a box of three extents.
+fn too_many(count: usize, x: u16, y: u16, z: u16, width: u16) -> bool {
+    let row = cells_along(x, width) as usize + 1;
+    let layer = row * (cells_along(y, width) as usize + 1);
+    count < layer * (cells_along(z, width) as usize + 1)
+}
+
+// The longest side is cut into ever more parts, while there are no more cells than vertices.
+fn width_for(count: usize, x: u16, y: u16, z: u16) -> u16 {
+    let longest = greatest(greatest(x, y), z);
+    let mut width = longest;
+    let mut parts: u16 = 2;
+    while parts < 1024 {
+        let next = longest / parts;
+        if too_many(count, x, y, z, next) {
+            return width;
+        }
+        width = next;
+        parts += 1;
+    }
+    width
+}
+
+// Cells for so many vertices.
+fn cells_for<'a>(l: Layout, base: &'a [u8], grown: &'a [u8], count: usize) -> Cells {
+    let from = least_place(l, base, grown, count);
+    let to = greatest_place(l, base, grown, count);
+    let width = width_for(
+        count,
+        extent(from.x, to.x),
+        extent(from.y, to.y),
+        extent(from.z, to.z),
+    );
+    Cells {
+        least: from,
+        width: width,
+    }
+}
+
+fn any_record<'a>(
+    l: Layout,
+    base: &'a [u8],
+    grown: &'a [u8],
+    heads: &'a [u16],
+    nexts: &'a [u16],
+    vertices: u32,
+    records: usize,
+    cells: Cells,
+) -> bool
+    ensures { λ r. ⌜ (0 < length (now (heads .entry)) → Chain (λ v. placeKey (length (now (heads .entry))) cells (vertexIn l (now (base .entry)) (now (grown .entry)) v .place)) vertices (now (heads .entry)) (now (nexts .entry)) → r ≡ anyBelow records (λ n. anyBelow vertices (hangsOn (vertexIn l (now (base .entry)) (now (grown .entry))) (recordIn l (now (base .entry)) (now (grown .entry)) n .piece)))) ⌝ }
+{
+    let mut n: usize = 0;
+    while n < records {
+        if record_hangs(l, base, grown, heads, nexts, vertices, cells, n) {
+            return true;
+        }
+        n += 1;
+    }
+    false
+}
+
+// Refusal 23. Lists that are too short for the vertices are answered at once.
+pub fn hanging_vertices<'a>(
+    h: Header,
+    l: Layout,
+    base: &'a [u8],
+    grown: &'a [u8],
+    heads: &mut [u16],
+    nexts: &mut [u16],
+) -> bool
+    ensures { λ r. ⌜ r ≡ (short (now (heads .entry)) (now (nexts .entry)) (h .«base_vertices») || hangingVertices (tables h l (now (base .entry)) (now (grown .entry)))) ⌝ }
+{
+    let count = h.base_vertices as usize;
+    if chains::is_short(heads, nexts, count) {
+        return true;
+    }
+    chains::clear(heads);
+    let cells = cells_for(l, base, grown, count);
+    link_all(l, base, grown, count, cells, heads, nexts);
+    any_record(
+        l,
+        base,
+        grown,
+        heads,
+        nexts,
+        h.base_vertices,
+        h.base_records as usize,
+        cells,
+    )
+}
