@@ -96,10 +96,6 @@ module _ (coordinates : List ℤ) (p : Piece) where
   unfolding rightedPiece lastExchanged
   righted-four four = ⊎-elim (λ t. rw t) (λ f. rw f four) (either left)
 
-  pub righted-generation : rightedPiece coordinates p .generation ≡ p .generation
-  unfolding rightedPiece lastExchanged
-  righted-generation = ⊎-elim (λ t. rw t) (λ f. rw f) (either left)
-
   pub righted-different : Different p → Different (rightedPiece coordinates p)
   righted-different d j k lj lk e =
       slot-once j k lj lk (d (slotGiven coordinates p j) (slotGiven coordinates p k) (slot-small j lj) (slot-small k lk) (sym (righted-corner j lj) ∙ e ∙ righted-corner k lk))

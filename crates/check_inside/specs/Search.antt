@@ -11,7 +11,7 @@ use lib.Signed.{_<ℤ_}
 use lib.Dec.{eqb, ltb}
 use lib.Ieee.Nearest.{div-mono}
 use borrow.Author.Tests.{eqb-true, eq-eqb, ltb-true, lt-ltb, le-leb}
-use Rattle.laws.specs.Below.{anyBelow, any-none, any-suc, any-is, any-where, any-same, foldBelow, allBelow}
+use Rattle.laws.specs.Below.{and-left, and-right, same-tests, anyBelow, any-none, any-suc, any-is, any-where, any-same, foldBelow, allBelow}
 use Rattle.laws.specs.Links.{linkAt, link-down, anyAlong, any-along-none, any-along-on, Chain, linksOf, linkedBelow, linked-heads-long, zeros-at, chain-linked, chain-any, keyAmong, key-within, Roomy}
 use Rattle.piece.specs.declared.Piece.{Piece}
 use Rattle.grid.specs.declared.Place.{Place}
@@ -33,29 +33,15 @@ or-either : (a b : Bool) → (a || b) ≡ true → (Q : Type 0) → (a ≡ true 
 or-either true b e Q f g = f refl
 or-either false b e Q f g = g e
 
-or-first : (a b : Bool) → a ≡ true → (a || b) ≡ true
-or-first a b e = rw e
+or-by-first : (a b : Bool) → a ≡ true → (a || b) ≡ true
+or-by-first a b e = rw e
 
-or-second : (a b : Bool) → b ≡ true → (a || b) ≡ true
-or-second true b e = refl
-or-second false b e = e
+or-by-second : (a b : Bool) → b ≡ true → (a || b) ≡ true
+or-by-second true b e = refl
+or-by-second false b e = e
 
 and-both : (a b : Bool) → a ≡ true → b ≡ true → (a && b) ≡ true
 and-both a b e f = rw (e, f)
-
-and-one : (a b : Bool) → (a && b) ≡ true → a ≡ true
-and-one true b e = refl
-and-one false b e = e
-
-and-two : (a b : Bool) → (a && b) ≡ true → b ≡ true
-and-two true b e = e
-and-two false b e = absurd (false≢true e)
-
--- Two tests that pass each where the other does are one.
-same-test : (a b : Bool) → (a ≡ true → b ≡ true) → (b ≡ true → a ≡ true) → a ≡ b
-same-test true b f g = sym (f refl)
-same-test false true f g = g refl
-same-test false false f g = refl
 
 -- ---- along links
 
@@ -76,8 +62,8 @@ module _ (nexts : List ℕ) (P : ℕ → Bool) where
   along-more Q more (suc bound) (suc u) l e =
       any-along-on nexts Q u
       ∙ or-either (P u) (anyAlong nexts P (linkAt nexts u)) (sym (any-along-on nexts P u) ∙ e) ((Q u || anyAlong nexts Q (linkAt nexts u)) ≡ true)
-      (λ here. or-first (Q u) _ (more u here))
-      (λ later. or-second (Q u) _ (along-more Q more bound (linkAt nexts u) (omega (arith, link-down nexts u)) later))
+      (λ here. or-by-first (Q u) _ (more u here))
+      (λ later. or-by-second (Q u) _ (along-more Q more bound (linkAt nexts u) (omega (arith, link-down nexts u)) later))
 
 -- What has a key is found from its head on.
 chain-finds : (key : ℕ → ℕ) (n : ℕ) (heads nexts : List ℕ) → Chain key n heads nexts → (P : ℕ → Bool) (v : ℕ) → v < n → key v < length heads → P v ≡ true →
@@ -85,8 +71,8 @@ chain-finds : (key : ℕ → ℕ) (n : ℕ) (heads nexts : List ℕ) → Chain k
 chain-finds key n heads nexts c P v l within here =
     let k = key v in
     let Q : ℕ → Bool = λ u. eqb (key u) k && P u in
-    along-more nexts Q P (λ u e. and-two (eqb (key u) k) (P u) e) (getD heads k 0) (getD heads k 0) (le-refl (getD heads k 0))
-    (chain-any key n heads nexts c Q k within (λ u b e. eqb-true (key u) k (and-one (eqb (key u) k) (P u) e))
+    along-more nexts Q P (λ u e. and-right (eqb (key u) k) (P u) e) (getD heads k 0) (getD heads k 0) (le-refl (getD heads k 0))
+    (chain-any key n heads nexts c Q k within (λ u b e. eqb-true (key u) k (and-left (eqb (key u) k) (P u) e))
     ∙ any-is Q n v l (and-both (eqb k k) (P v) (eq-eqb k k refl) here))
 
 -- ---- from one number to another
@@ -228,9 +214,9 @@ module _ (vertexAt : ℕ → Vertex) (count : ℕ) (q : Asking) (cells : Cells) 
       let corner = not (isCorner q u) in
       let box = isWithin (lowOf q) (highOf q) (vertexAt u .place) in
       let lies = liesIn (standing q) (pointOf (vertexAt u .place)) in
-      let both = and-two (ltb u count) (corner && box && lies) e in (
-        ltb-true u count (and-one (ltb u count) (corner && box && lies) e),
-        and-both corner lies (and-one corner box (and-one (corner && box) lies both)) (and-two (corner && box) lies both),
+      let both = and-right (ltb u count) (corner && box && lies) e in (
+        ltb-true u count (and-left (ltb u count) (corner && box && lies) e),
+        and-both corner lies (and-left corner box (and-left (corner && box) lies both)) (and-right (corner && box) lies both),
       )
 
   plain-asked : (u : ℕ) → u < count → plain u ≡ true → asked u ≡ true
@@ -239,9 +225,9 @@ module _ (vertexAt : ℕ → Vertex) (count : ℕ) (q : Asking) (cells : Cells) 
       let corner = not (isCorner q u) in
       let place = vertexAt u .place in
       let lies = liesIn (standing q) (pointOf place) in
-      let in-it = and-two corner lies e in
+      let in-it = and-right corner lies e in
       and-both (ltb u count) _ (lt-ltb u count l)
-      (and-both (corner && isWithin (lowOf q) (highOf q) place) lies (and-both corner _ (and-one corner lies e) (is-within q right place in-it)) in-it)
+      (and-both (corner && isWithin (lowOf q) (highOf q) place) lies (and-both corner _ (and-left corner lies e) (is-within q right place in-it)) in-it)
 
   -- What is asked is found in its own cell.
   in-own-cell : (u : ℕ) → u < count → asked u ≡ true → let s = slabsOf cells (vertexAt u .place) in inCell heads nexts asked (s .x) (s .y) (s .z) ≡ true
@@ -255,7 +241,7 @@ module _ (vertexAt : ℕ → Vertex) (count : ℕ) (q : Asking) (cells : Cells) 
   unfolding hangsAmong
   found u l e =
       let place = vertexAt u .place in
-      let lies = and-two (not (isCorner q u)) (liesIn (standing q) (pointOf place)) e in
+      let lies = and-right (not (isCorner q u)) (liesIn (standing q) (pointOf place)) e in
       let x = in-x q right place lies in
       let y = in-y q right place lies in
       let z = in-z q right place lies in
@@ -267,7 +253,7 @@ module _ (vertexAt : ℕ → Vertex) (count : ℕ) (q : Asking) (cells : Cells) 
 
   pub block-found : inBlock heads nexts (hangsBelow vertexAt count q (lowOf q) (highOf q)) (slabsOf cells (lowOf q)) (slabsOf cells (highOf q)) ≡ anyBelow count (λ u. hangsAmong q u (vertexAt u .place))
   block-found =
-      same-test _ _
+      same-tests _ _
       (λ e. let (u, a) = block-where heads nexts asked (slabsOf cells (lowOf q)) (slabsOf cells (highOf q)) e in
       let (l, p) = asked-plain u a in
       any-is plain count u l p)
@@ -278,10 +264,6 @@ module _ (vertexAt : ℕ → Vertex) (count : ℕ) (q : Asking) (cells : Cells) 
 pub asking-hangs : (vertexAt : ℕ → Vertex) (p : Piece) (v : ℕ) → hangsAmong (askingOf vertexAt p) v (vertexAt v .place) ≡ hangsOn vertexAt p v
 unfolding hangsAmong askingOf hangsOn isCorner hasCorner liesIn leftHanded differencesOf anyBelow allBelow foldBelow
 asking-hangs vertexAt p v = refl
-
-pub asking-signed : (vertexAt : ℕ → Vertex) (p : Piece) → signedOf (standing (askingOf vertexAt p)) ≡ signedOf (λ k. pointOf (vertexAt (getD (p .corners) k 0) .place))
-unfolding askingOf differencesOf
-asking-signed vertexAt p = refl
 
 -- So what all vertices answer is what the definition asks.
 pub all-asked : (vertexAt : ℕ → Vertex) (p : Piece) (count : ℕ) {q : Asking} → q ≡ askingOf vertexAt p →

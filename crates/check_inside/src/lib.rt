@@ -42,6 +42,9 @@ struct Asking {
     d: Corner,
 }
 
+// More parts of the longest side than there may be vertices are of no use.
+const PARTS: u16 = stored::VERTICES as u16;
+
 fn least(a: u16, b: u16) -> u16
     ensures { λ r. ⌜ r ≡ min a b ⌝ }
 {
@@ -502,7 +505,7 @@ fn width_for(count: usize, x: u16, y: u16, z: u16) -> u16 {
     let longest = greatest(greatest(x, y), z);
     let mut width = longest;
     let mut parts: u16 = 2;
-    while parts < 1024 {
+    while parts < PARTS {
         let next = longest / parts;
         if too_many(count, x, y, z, next) {
             return width;

@@ -1,4 +1,4 @@
--- `check_inside::width_for` divides by no 0, and parts goes up to 1024.
+-- `check_inside::width_for` divides by no 0, and parts goes up to as many as there may be vertices.
 -- Assumes nothing.
 use borrow.Author.Needs.{needs}
 use Prim.Native.Nat.{_-_, _≤_}
