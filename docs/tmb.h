@@ -34,6 +34,10 @@ extern "C" {
  *    7  a face in three base records, two base records with the same four corners, or a shared face
  *       with two marks
  *    8  a base vertex in no base record
+ *   23  a base vertex that lies in a closed base piece and isn't one of its corners: on an edge of a
+ *       base record, in a face of it or inside, by exact determinants. It lies there exactly when
+ *       none of the four values that the record has with one corner replaced by the vertex is
+ *       negative. Pieces that overlap with no vertex inside one another are not judged
  *    9  a cut record whose children aren't what cutting gives, or don't have greater numbers; a
  *       record beyond the base that isn't the child of exactly one; a made vertex that is the
  *       midpoint of no cut record's refinement edge; a generation above 15
@@ -60,7 +64,7 @@ struct tmb_report tmb_check(const uint8_t *mesh, size_t length);
  * and corner_count corners, four a piece, which are only read. Every piece is stored right-handed: of
  * a left-handed one the last two corners are exchanged before it is marked, and it keeps its place in
  * the list. Build gives back the number alone, 0 on acceptance; it never gives 22, and tries 21, then
- * 3, 4, 5, 7, 8, 20:
+ * 3, 4, 5, 7, 8, 23, 20:
  *
  *    0  accepted
  *   21  coordinates not three a vertex, or corners not four a piece
@@ -70,6 +74,8 @@ struct tmb_report tmb_check(const uint8_t *mesh, size_t length);
  *    5  base record with equal corners, a corner not in the base, or sixfold volume 0
  *    7  a face in three base records, or two base records with the same four corners
  *    8  a base vertex in no base record
+ *   23  a base vertex that lies in a closed base piece and isn't one of its corners: on an edge of
+ *       the piece, in a face of it or inside
  *   20  the output buffer is shorter than the result
  *
  * The result has 20 + 10 * vertices + 17 * records bytes, at most 62,484. All room bytes at out are
@@ -86,7 +92,7 @@ uint32_t tmb_build(uint32_t job, const int16_t *coordinates, size_t coordinate_c
  * names the refusal:
  *
  *    0  accepted
- *    1 to 10 and 22, of the mesh: what check gives for it, in the words above
+ *    1 to 10, 22 and 23, of the mesh: what check gives for it, in the words above
  *   11  selection under 13 bytes, or length not 13 + 2 * n
  *   12  selection's mark or version wrong
  *   13  another job
@@ -116,7 +122,7 @@ uint32_t tmb_refine(const uint8_t *mesh, size_t mesh_length, const uint8_t *sele
  * alone, 0 on acceptance; else the first rule broken, in this order, names the refusal:
  *
  *    0  accepted
- *    1 to 10 and 22, of the mesh: what check gives for it, in the words above
+ *    1 to 10, 22 and 23, of the mesh: what check gives for it, in the words above
  *   11 to 15, of the request: what refine gives for a selection, in the words above
  *   30  a named record that is uncut
  *   18  the round is 65,535
@@ -135,7 +141,7 @@ uint32_t tmb_take_back(const uint8_t *mesh, size_t mesh_length, const uint8_t *r
  *
  * number is 0 where an accepted mesh is listed; else
  *
- *    1 to 10 and 22, of the mesh: what check gives for it, in the words above; input longer than
+ *    1 to 10, 22 and 23, of the mesh: what check gives for it, in the words above; input longer than
  *       the largest mesh, 62,484 bytes, is refused with 1 here
  *   20  of an accepted mesh: the output buffer is shorter than the listing
  */

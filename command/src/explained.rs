@@ -1,13 +1,14 @@
 //! What explains a refusal, read off the files where it is plain. A service has given the number
 //! before; nothing here decides it.
 
+use crate::hanging::Hanging;
 use crate::plain::Plain;
 use crate::station;
 use crate::stored::{
     self, job, named, round, two, Counts, Record, LARGEST_MESH, LONGEST_MESH, LONGEST_SELECTION,
 };
 
-/// 1 to 10 and 22, of a stored mesh.
+/// 1 to 10, 22 and 23, of a stored mesh.
 pub fn mesh(number: u32, mesh: &[u8]) -> Option<String> {
     match number {
         1 | 2 if mesh.starts_with(b"TMS") => Some("this is a selection, not a mesh".to_string()),
@@ -18,11 +19,12 @@ pub fn mesh(number: u32, mesh: &[u8]) -> Option<String> {
         3 => Some(counts(mesh)),
         10 => Some(hanging_edge(mesh)),
         22 => left_handed(mesh),
+        23 => hanging_vertex(mesh),
         _ => None,
     }
 }
 
-/// 1 to 10 and 22 of the mesh, 11 to 19 of the selection for it.
+/// 1 to 10, 22 and 23 of the mesh, 11 to 19 of the selection for it.
 pub fn refinement(number: u32, mesh: &[u8], selection: &[u8]) -> Option<String> {
     match number {
         16 => named_where(mesh, selection, |record| record.is_cut())
@@ -42,7 +44,7 @@ pub fn refinement(number: u32, mesh: &[u8], selection: &[u8]) -> Option<String> 
     }
 }
 
-/// 1 to 10 and 22 of the mesh, 11 to 15, 30 and 18 of the request for it.
+/// 1 to 10, 22 and 23 of the mesh, 11 to 15, 30 and 18 of the request for it.
 pub fn taking_back(number: u32, mesh: &[u8], request: &[u8]) -> Option<String> {
     match number {
         18 => Some("no cut of this mesh can be taken back any more".to_string()),
@@ -68,7 +70,7 @@ const REQUEST: Choice = Choice {
 };
 
 impl Choice {
-    /// 1 to 10 and 22 of the mesh, and 11 to 15, which are the same of both.
+    /// 1 to 10, 22 and 23 of the mesh, and 11 to 15, which are the same of both.
     fn explained(&self, number: u32, mesh: &[u8], choice: &[u8]) -> Option<String> {
         match number {
             11 | 12 if choice.starts_with(b"TMB") => {
@@ -171,6 +173,17 @@ fn left_handed(mesh: &[u8]) -> Option<String> {
     ))
 }
 
+/// 23: the first base vertex that hangs on a base record.
+fn hanging_vertex(mesh: &[u8]) -> Option<String> {
+    let found = Hanging::first(&stored::base_places(mesh), &stored::base_corners(mesh))?;
+    let (vertex, lies) = (found.vertex, found.lies(&format!("record {}", found.piece)));
+    Some(format!(
+        "vertex {vertex} {lies}: this mesh was made elsewhere or earlier; in its plain mesh {}, and build it \
+         anew",
+        found.mend()
+    ))
+}
+
 /// The first one with which a number is given: the first so many give it or not, and all of them do.
 fn first_of(all: usize, gives: impl Fn(usize) -> bool) -> Option<usize> {
     // So many don't, so many do.
@@ -226,6 +239,7 @@ pub fn plain(number: u32, plain: &Plain) -> Option<String> {
                 plain.vertex_lines[unused]
             ))
         }
+        23 => hanging_given(plain),
         _ => None,
     }
 }
@@ -233,7 +247,7 @@ pub fn plain(number: u32, plain: &Plain) -> Option<String> {
 /// 4: the first vertex that is off the grid or where another is.
 fn bad_vertex(plain: &Plain) -> Option<String> {
     let off_grid = |x: &i16| x % 32 != 0 || x.unsigned_abs() > 32_736;
-    let places: Vec<&[i16]> = plain.coordinates.chunks_exact(3).collect();
+    let places = plain.places();
     for (vertex, (place, line)) in places.iter().zip(&plain.vertex_lines).enumerate() {
         if let Some(x) = place.iter().find(|x| off_grid(x)) {
             return Some(format!(
@@ -259,6 +273,19 @@ fn bad_piece(plain: &Plain, number: u32, why: fn(&Plain, usize) -> String) -> Op
     let piece = first_of(plain.piece_lines.len(), gives)?;
     let line = plain.piece_lines[piece];
     Some(format!("line {line}: piece {piece} {}", why(plain, piece)))
+}
+
+/// 23: the first vertex that hangs on a piece.
+fn hanging_given(plain: &Plain) -> Option<String> {
+    let found = Hanging::first(&plain.places(), &plain.pieces())?;
+    let Hanging { vertex, piece, .. } = found;
+    let name = format!("piece {piece} on line {}", plain.piece_lines[piece]);
+    Some(format!(
+        "line {}: vertex {vertex} {}: {}",
+        plain.vertex_lines[vertex],
+        found.lies(&name),
+        found.mend()
+    ))
 }
 
 fn corners_of(plain: &Plain, piece: usize) -> Vec<u16> {

@@ -37,6 +37,9 @@ are skipped.
 
 Every piece is stored right-handed: of a left-handed one the last two corners
 are exchanged before it is marked. It keeps its place among the pieces.
+
+Every vertex has to be a corner of each piece that it touches: one that lies on
+an edge, in a face or inside of a piece and isn't one of its corners gets 23.
 ",
     },
     Page {
@@ -51,7 +54,8 @@ generation of a leaf (deepest), and the summed sixfold volume of the leaves
 (sixfold).
 
 With refusal 10 the message names the record and the two vertices of the edge
-that hangs, with 22 the first base record that is left-handed.
+that hangs, with 22 the first base record that is left-handed, with 23 the
+first base vertex that hangs on a base record, and where on it the vertex lies.
 ",
     },
     Page {

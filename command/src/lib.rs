@@ -6,6 +6,7 @@ pub mod commands;
 pub mod cuts;
 pub mod explained;
 pub mod files;
+pub mod hanging;
 pub mod help;
 pub mod plain;
 pub mod refusals;

@@ -25,6 +25,20 @@ pub fn read(text: &[u8]) -> Result<Plain, usize> {
 }
 
 impl Plain {
+    /// The places of the vertices.
+    pub fn places(&self) -> Vec<[i16; 3]> {
+        let places = self.coordinates.chunks_exact(3);
+        places.map(|place| [place[0], place[1], place[2]]).collect()
+    }
+
+    /// The corners of the pieces.
+    pub fn pieces(&self) -> Vec<[u16; 4]> {
+        let pieces = self.corners.chunks_exact(4);
+        pieces
+            .map(|piece| [piece[0], piece[1], piece[2], piece[3]])
+            .collect()
+    }
+
     fn line(&mut self, line: &[u8], number: usize) -> Option<()> {
         let before_comment = std::str::from_utf8(line).ok()?.split('#').next()?;
         let words: Vec<&str> = before_comment.split_whitespace().collect();

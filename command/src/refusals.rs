@@ -3,9 +3,9 @@
 use std::fmt;
 use std::io;
 
-/// "Numbers we give back": the row of the table for each number, and document 02's 22 and 30, in their own
-/// words.
-pub const SENTENCES: [(u32, &str); 24] = [
+/// "Numbers we give back": the row of the table for each number, and document 02's 22, 23 and 30, in their
+/// own words.
+pub const SENTENCES: [(u32, &str); 25] = [
     (0, "accepted"),
     (1, "under 20 bytes, or length is not 20 + 10·vertices + 17·records"),
     (2, "wrong mark or version, or byte 19 not 0"),
@@ -35,6 +35,7 @@ pub const SENTENCES: [(u32, &str); 24] = [
     (20, "the output buffer is shorter than the result"),
     (21, "build: coordinates not three a vertex, or corners not four a piece"),
     (22, "a base record with a negative value"),
+    (23, "a base vertex that lies in a closed base piece and isn't one of its corners"),
     (30, "a named record that is uncut"),
 ];
 

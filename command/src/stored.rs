@@ -75,6 +75,23 @@ pub fn base_of(mesh: &[u8], records: usize) -> Vec<u8> {
     base
 }
 
+/// The places of the base vertices.
+pub fn base_places(mesh: &[u8]) -> Vec<[i16; 3]> {
+    // "Coordinates in two's complement."
+    let coordinate = |at: usize| two(mesh, at) as i16;
+    let place = |vertex: usize| [0, 2, 4].map(|offset| coordinate(20 + 10 * vertex + offset));
+    let vertices = Counts::of(mesh).base_vertices.into();
+    (0..vertices).map(place).collect()
+}
+
+/// The corners of the base records.
+pub fn base_corners(mesh: &[u8]) -> Vec<[u16; 4]> {
+    let records = Counts::of(mesh).base_records.into();
+    (0..records)
+        .map(|number| Record::of(mesh, number).corners)
+        .collect()
+}
+
 /// What is said of a record.
 pub struct Record {
     pub corners: [u16; 4],

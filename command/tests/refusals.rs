@@ -167,6 +167,186 @@ fn build_exchanges_corners_by_itself() {
     }
 }
 
+/// A piece, record 0; another over its face of vertices 1, 2 and 3; and two far away. Of these, vertices 5 and 9
+/// may be moved to the first two: they become long needles, right-handed still, which hold no other vertex.
+fn two_and_two_far_away() -> Vec<u8> {
+    let near = [
+        [0, 0, 0],
+        [128, 0, 0],
+        [0, 128, 0],
+        [0, 0, 128],
+        [128, 128, 128],
+    ];
+    let far = [[0, 0, 0], [64, 0, 0], [64, 64, 0], [64, 0, 64]]
+        .map(|[x, y, z]| [x + 16_384, y + 6_048, z + 3_424]);
+    let higher = far.map(|[x, y, z]| [x, y, z + 256]);
+    let places = [&near[..], &far, &higher].concat().concat();
+    let corners = [0, 1, 2, 3, 1, 2, 3, 4, 5, 6, 7, 8, 9, 10, 11, 12];
+    second::build_vec(7, &places, &corners).unwrap()
+}
+
+/// What is said of a vertex that lies between so many corners of a record.
+fn hangs(vertex: usize, between: &[usize], record: usize) -> String {
+    let lies = match between {
+        [one, other] => format!("on the edge of vertices {one} and {other} of record {record}"),
+        [one, other, third] => {
+            format!("in the face of vertices {one}, {other} and {third} of record {record}")
+        }
+        _ => format!("inside record {record}"),
+    };
+    let mend = match between.len() {
+        4 => "move the vertex, so that it lies inside no piece",
+        _ => {
+            "split that piece there or move the vertex, so that it is a corner of every piece that it \
+             touches"
+        }
+    };
+    format!(
+        "vertex {vertex} lies {lies}: this mesh was made elsewhere or earlier; in its plain mesh {mend}, and \
+         build it anew"
+    )
+}
+
+/// 23, by a base vertex moved in the bytes. The first vertex that hangs is named, and the first record that it
+/// hangs on.
+#[test]
+fn of_a_hanging_vertex() {
+    let desk = Desk::new("hanging-vertex");
+    let mesh = two_and_two_far_away();
+    let refused = |mesh: &[u8], why: &str| mesh_refused(&desk, mesh, 23, why);
+    refused(
+        &moved(&mesh, 5, [64, 0, 0]),
+        "vertex 5 lies on the edge of vertices 0 and 1 of record 0: this mesh was made elsewhere or earlier; in \
+         its plain mesh split that piece there or move the vertex, so that it is a corner of every piece that \
+         it touches, and build it anew",
+    );
+    refused(
+        &moved(&mesh, 9, [0, 64, 32]),
+        "vertex 9 lies in the face of vertices 0, 2 and 3 of record 0: this mesh was made elsewhere or earlier; \
+         in its plain mesh split that piece there or move the vertex, so that it is a corner of every piece \
+         that it touches, and build it anew",
+    );
+    let inside = moved(&mesh, 5, [64, 64, 64]);
+    let inside_1 = "vertex 5 lies inside record 1: this mesh was made elsewhere or earlier; in its plain mesh \
+                    move the vertex, so that it lies inside no piece, and build it anew";
+    refused(&inside, inside_1);
+    // Of several: the first vertex, though another hangs on a record before; the first record of two.
+    refused(&moved(&inside, 9, [32, 32, 32]), inside_1);
+    refused(&moved(&mesh, 9, [32, 32, 64]), &hangs(9, &[1, 2, 3], 0));
+    // Cut or not.
+    let cut = refined(&refined(&mesh, &[0]), &[4, 5]);
+    refused(&moved(&cut, 5, [64, 64, 64]), inside_1);
+    refused(&moved(&cut, 5, [64, 64, 0]), &hangs(5, &[1, 2], 0));
+}
+
+/// 23 is tried after 8 and before 9.
+#[test]
+fn of_a_hanging_vertex_in_its_turn() {
+    let desk = Desk::new("hanging-vertex-in-turn");
+    let mesh = moved(&two_and_two_far_away(), 5, [32, 32, 32]);
+    let before = |number, change: fn(&mut Mesh)| {
+        mesh_refused(&desk, &changed(&mesh, change), number, "");
+    };
+    before(4, |mesh| mesh.vertices[3].place = [0, 0, 100]);
+    before(5, |mesh| mesh.records[3].flag = 1);
+    before(6, |mesh| mesh.records[3].marks[0] = 6);
+    before(7, |mesh| {
+        mesh.records.push(mesh.records[3]);
+        mesh.base_records += 1;
+    });
+    before(8, |mesh| {
+        mesh.vertices.push(mesh.vertices[4]);
+        mesh.vertices[13].place = [0, 0, 640];
+        mesh.base_vertices += 1;
+    });
+    let why = hangs(5, &[0, 1, 2, 3], 0);
+    mesh_refused(&desk, &mesh, 23, &why);
+    // A child of another generation is 9, an edge that hangs 10.
+    let cut = refined(&two_and_two_far_away(), &[0]);
+    let older = changed(&cut, |mesh| mesh.records[4].generation = 2);
+    mesh_refused(&desk, &older, 9, "");
+    mesh_refused(&desk, &moved(&older, 5, [32, 32, 32]), 23, &why);
+    let open = cut_first(&two_and_two_far_away());
+    let edge = "record 1, the edge of vertices 1 and 2";
+    mesh_refused(&desk, &open, 10, edge);
+    mesh_refused(&desk, &moved(&open, 5, [32, 32, 32]), 23, &why);
+}
+
+/// A vertex at every place of the grid round the two pieces: in a closed one it hangs, elsewhere it does not.
+#[test]
+fn of_a_vertex_anywhere() {
+    let desk = Desk::new("vertex-anywhere");
+    let mesh = two_and_two_far_away();
+    let mut seen = [0; 5];
+    for number in 0..343 {
+        let [x, y, z] = [number % 7, number / 7 % 7, number / 49].map(|n| n - 1);
+        // A place as a mean of the corners: their weights, in fourths in record 0, in eighths in record 1.
+        let over = x + y + z - 4;
+        let pieces = [
+            ([0, 1, 2, 3], [-over, x, y, z]),
+            (
+                [1, 2, 3, 4],
+                [2 * x - over, 2 * y - over, 2 * z - over, over],
+            ),
+        ];
+        let is_closed = |weights: &[i16; 4]| weights.iter().all(|&weight| weight >= 0);
+        let record = pieces.iter().position(|(_, weights)| is_closed(weights));
+        let between: Vec<usize> = record.map_or(Vec::new(), |record| {
+            let (corners, weights) = pieces[record];
+            let slots = (0..4).filter(|&slot| weights[slot] > 0);
+            slots.map(|slot| corners[slot]).collect()
+        });
+        seen[between.len()] += 1;
+        desk.write("mesh", &moved(&mesh, 5, [x, y, z].map(|n| 32 * n)));
+        let output = desk.run(&["check", "mesh"]);
+        match between.len() {
+            0 => assert_eq!(output.status.code(), Some(0)),
+            // Where a corner is.
+            1 => refuses(&output, 4, ""),
+            _ => refuses(&output, 23, &hangs(5, &between, record.unwrap())),
+        }
+    }
+    assert_eq!(seen, [278, 5, 27, 21, 12]);
+}
+
+/// The farthest that corners can be from each other; and many records, of which the first, the last but one and
+/// one between is hung on.
+#[test]
+fn of_a_vertex_far_away_and_among_many() {
+    let desk = Desk::new("vertex-far-away");
+    let far = 32_736;
+    let places = [
+        [-far, -far, -far],
+        [far, -far, -far],
+        [-far, far, -far],
+        [-far, -far, far],
+        [far - 64, far, far],
+        [far, far, far],
+        [far, far - 64, far],
+        [far, far, far - 64],
+    ];
+    let mesh = second::build_vec(1, &places.concat(), &[0, 1, 2, 3, 4, 5, 6, 7]).unwrap();
+    for (place, between) in [
+        ([0, -far, -far], &[0, 1][..]),
+        ([0, 0, -far], &[1, 2]),
+        ([-far, 0, 0], &[2, 3]),
+        ([-16_384, -16_384, -far], &[0, 1, 2]),
+        ([-10_912, -10_912, -10_912], &[1, 2, 3]),
+        ([-10_944, -10_912, -10_912], &[0, 1, 2, 3]),
+    ] {
+        mesh_refused(&desk, &moved(&mesh, 4, place), 23, &hangs(4, between, 0));
+    }
+    desk.write("mesh", &moved(&mesh, 4, [-10_880, -10_912, -10_912]));
+    assert_eq!(desk.run(&["check", "mesh"]).status.code(), Some(0));
+    for record in [0, 100, 254] {
+        let [x, y] = [record % 16, record / 16].map(|n| 256 * n as i16);
+        let next = 4 * record + 4;
+        let mesh = moved(&separate(256), next, [x + 64, y + 64, 32]);
+        let why = hangs(next, &[next - 2, next - 1], record);
+        mesh_refused(&desk, &mesh, 23, &why);
+    }
+}
+
 /// Two pieces with the edge of vertices 0 and 1 alone in common; the first is cut there. In the second
 /// the edge has this code, its higher vertex first.
 fn hangs_at(code: usize) -> Vec<u8> {
@@ -447,6 +627,8 @@ fn of_a_plain_mesh() {
     let desk = Desk::new("plain-refused");
     desk.write("old", b"old");
     let apart = "v 640 0 0\nv 704 0 0\nv 704 64 0\nv 704 64 64\n";
+    let below = "v 0 -64 0\nv 64 -64 0\nv 0 -64 64\n";
+    let large = "v 0 0 0\nv 128 0 0\nv 0 128 0\nv 0 0 128\n";
     for (text, number, why) in [
         (
             "# nothing\n",
@@ -509,6 +691,37 @@ fn of_a_plain_mesh() {
             8,
             "line 6: vertex 4",
         ),
+        // On an edge, but in no piece.
+        (
+            "v 0 0 0\nv 64 0 0\nv 64 64 0\nv 64 64 64\nv 32 0 0\np 0 1 2 3\n",
+            8,
+            "line 5: vertex 4",
+        ),
+        (
+            "v 0 0 0\nv 64 0 0\nv 64 64 0\nv 64 64 64\nv 32 0 0\nv 64 0 -64\np 0 1 2 3\np 4 1 2 5\n",
+            23,
+            "line 5: vertex 4 lies on the edge of vertices 0 and 1 of piece 0 on line 7: split that piece there \
+             or move the vertex, so that it is a corner of every piece that it touches",
+        ),
+        // The piece on line 11 is left-handed as it is given.
+        (
+            &format!("v 32 0 32\n{below}p 0 1 2 3\n{large}\np 7 5 6 4\n"),
+            23,
+            "line 1: vertex 0 lies in the face of vertices 4, 5 and 7 of piece 1 on line 11: split that piece \
+             there or move the vertex, so that it is a corner of every piece that it touches",
+        ),
+        (
+            &format!("p 0 1 2 3\nv 32 32 32\n{below}{large}p 4 5 6 7\n"),
+            23,
+            "line 2: vertex 0 lies inside piece 1 on line 10: move the vertex, so that it lies inside no piece",
+        ),
+        // A face in three pieces is tried before.
+        (
+            "v 0 0 0\nv 64 0 0\nv 0 64 0\nv 0 0 64\nv 0 0 -64\nv 0 0 32\n\
+          p 0 1 2 3\np 0 1 2 4\np 0 1 2 5\n",
+            7,
+            "line 9: piece 2 has a face that two pieces before it have",
+        ),
     ] {
         desk.write("text", text.as_bytes());
         let before = desk.files();
@@ -519,7 +732,7 @@ fn of_a_plain_mesh() {
     }
 }
 
-/// The first bad piece is found among many.
+/// The first bad piece is found among many, and the vertex that hangs.
 #[test]
 fn of_a_long_plain_mesh() {
     let desk = Desk::new("long-plain-refused");
@@ -550,6 +763,23 @@ fn of_a_long_plain_mesh() {
             4 * piece + 3
         );
         refuses(&desk.run(&["build", "7", "text", "new"]), 5, &why);
+    }
+    // A vertex of a piece stands on an edge of the piece before.
+    for piece in [1, 100, 199] {
+        let (mut lines, before) = (lines.clone(), piece - 1);
+        let x = 128 * piece;
+        lines[piece] = format!("v {x} 0 0\nv {} 32 0\nv {x} 64 0\nv {x} 0 64\n", x - 128);
+        desk.write("text", lines.concat().as_bytes());
+        let why = format!(
+            "line {}: vertex {} lies on the edge of vertices {} and {} of piece {before} on line {}: split that \
+             piece there or move the vertex, so that it is a corner of every piece that it touches",
+            4 * piece + 2,
+            4 * piece + 1,
+            4 * before,
+            4 * before + 2,
+            801 + before
+        );
+        refuses(&desk.run(&["build", "7", "text", "new"]), 23, &why);
     }
 }
 

@@ -69,6 +69,11 @@ fn help() {
             "of a left-handed one the last two corners\nare exchanged before it is marked",
         ),
         (
+            "build",
+            "usage: tmb build JOB PLAIN OUT\n",
+            "Every vertex has to be a corner of each piece that it touches",
+        ),
+        (
             "check",
             "usage: tmb check MESH\n",
             "names the record and the two vertices",
@@ -77,6 +82,11 @@ fn help() {
             "check",
             "usage: tmb check MESH\n",
             "with 22 the first base record that is left-handed",
+        ),
+        (
+            "check",
+            "usage: tmb check MESH\n",
+            "with 23 the\nfirst base vertex that hangs on a base record",
         ),
         (
             "select",

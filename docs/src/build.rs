@@ -1,6 +1,6 @@
 //! Build: marks a plain mesh and stores it.
 
-use crate::check::{rule_4_holds, rule_5_holds, rule_7_holds, rule_8_holds};
+use crate::check::{rule_23_holds, rule_4_holds, rule_5_holds, rule_7_holds, rule_8_holds};
 use crate::deliver;
 use crate::mesh::{counts_hold, Mesh, Record, Vertex, NO_NUMBER};
 use crate::piece::{ends, on_face};
@@ -12,8 +12,8 @@ pub fn build(job: u32, coordinates: &[i16], corners: &[u16], out: &mut [u8]) -> 
     deliver(build_vec(job, coordinates, corners), out)
 }
 
-/// "Build tries 21, then 3, 4, 5, 7, 8, 20": all but 20, since the result is as long as it has to
-/// be.
+/// "Build tries 21, then 3, 4, 5, 7, 8, 20", and 23 "before 20": all but 20, since the result is as
+/// long as it has to be.
 pub fn build_vec(job: u32, coordinates: &[i16], corners: &[u16]) -> Result<Vec<u8>, u32> {
     if !coordinates.len().is_multiple_of(3) || !corners.len().is_multiple_of(4) {
         return Err(21);
@@ -48,6 +48,9 @@ pub fn build_vec(job: u32, coordinates: &[i16], corners: &[u16]) -> Result<Vec<u
     }
     if !rule_8_holds(&mesh) {
         return Err(8);
+    }
+    if !rule_23_holds(&mesh) {
+        return Err(23);
     }
     Ok(mesh.bytes())
 }

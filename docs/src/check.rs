@@ -1,8 +1,9 @@
-//! Check: judges a stored mesh by the rules 1 to 10, and 22.
+//! Check: judges a stored mesh by the rules 1 to 10, 22 and 23.
 
 use crate::mesh::{Mesh, Pairs, Record, MOST_VERTICES, NO_NUMBER};
 use crate::piece::{children, ends, properly_marked};
 use std::collections::{HashMap, HashSet};
+use std::ops::RangeInclusive;
 
 /// "On acceptance it returns number 0, leaves, greatest leaf generation and summed sixfold volume
 /// of the leaves; with a refusal these three are 0." "With 10 it also returns the first leaf edge
@@ -17,7 +18,7 @@ pub struct Report {
     pub edge: u64,
 }
 
-/// "Check judges a stored mesh": "Check gives 1 to 10", document 02's 22, or 0.
+/// "Check judges a stored mesh": "Check gives 1 to 10", document 02's 22 and 23, or 0.
 pub fn check(mesh: &[u8]) -> Report {
     match judge(mesh) {
         Err(refusal) => refusal,
@@ -52,7 +53,8 @@ fn refused(number: u32) -> Report {
 }
 
 /// "The first rule broken, in the order of the numbers, names the refusal"; 22 is "tried after 5 and
-/// before 6". An accepted mesh comes back with its made vertices by parent pair.
+/// before 6", 23 "after 8 and before 9". An accepted mesh comes back with its made vertices by parent
+/// pair.
 pub(crate) fn judge(bytes: &[u8]) -> Result<(Mesh, Pairs), Report> {
     let mesh = Mesh::read(bytes).map_err(refused)?;
     let pairs = mesh.pairs();
@@ -73,6 +75,9 @@ pub(crate) fn judge(bytes: &[u8]) -> Result<(Mesh, Pairs), Report> {
     }
     if !rule_8_holds(&mesh) {
         return Err(refused(8));
+    }
+    if !rule_23_holds(&mesh) {
+        return Err(refused(23));
     }
     if !rule_9_holds(&mesh, &pairs) {
         return Err(refused(9));
@@ -196,6 +201,48 @@ pub(crate) fn rule_8_holds(mesh: &Mesh) -> bool {
         }
     }
     uses.iter().take(mesh.base_vertices).all(|&count| count > 0)
+}
+
+/// 23: "Document 002 has a vertex hang on a piece if it lies in the closed piece and isn't one of its
+/// corners. For base meshes that meaning holds from now on, by exact determinants. Pieces that overlap
+/// with no vertex inside one another stay unjudged." The plain way: every base vertex against every base
+/// record.
+pub(crate) fn rule_23_holds(mesh: &Mesh) -> bool {
+    base(mesh).all(|record| {
+        let reach = reach(mesh, record);
+        // What lies in a piece lies in its box; most vertices don't, and need no determinant.
+        let in_box = |place: [i16; 3]| (0..3).all(|axis| reach[axis].contains(&place[axis]));
+        let mut base_vertices = (0..).zip(&mesh.vertices).take(mesh.base_vertices);
+        !base_vertices.any(|(number, vertex)| {
+            !record.corners.contains(&number)
+                && in_box(vertex.place)
+                && lies_in(mesh, number, record)
+        })
+    })
+}
+
+/// The box of a piece: along each axis from its least corner to its greatest. By rule 5 there are four.
+fn reach(mesh: &Mesh, record: &Record) -> [RangeInclusive<i16>; 3] {
+    let places = record.corners.map(|corner| mesh.place(corner));
+    [0, 1, 2].map(|axis| {
+        let along = || places.iter().flatten().map(|place| place[axis]);
+        along().min().unwrap_or(0)..=along().max().unwrap_or(0)
+    })
+}
+
+/// Whether a vertex "lies in the closed piece", "by exact determinants": of the four with one corner
+/// replaced by the vertex none has the sign opposite to the piece's own, which is not 0 by rule 5.
+fn lies_in(mesh: &Mesh, vertex: u16, record: &Record) -> bool {
+    let sign = |corners: [u16; 4]| {
+        let value = mesh.signed(&Record { corners, ..*record });
+        value.map_or(0, i64::signum)
+    };
+    let own = sign(record.corners);
+    (0..4).all(|slot| {
+        let mut corners = record.corners;
+        corners[slot] = vertex;
+        sign(corners) != -own
+    })
 }
 
 /// 9: "a cut record whose children aren't what cutting gives, or don't have greater numbers; a

@@ -35,7 +35,7 @@ fn deliver(result: Result<Vec<u8>, u32>, out: &mut [u8]) -> u32 {
     }
 }
 
-/// "Numbers we give back": the row of the table for each number, and document 02's 22 and 30, in
+/// "Numbers we give back": the row of the table for each number, and document 02's 22, 23 and 30, in
 /// their own words.
 pub fn reason(number: u32) -> &'static str {
     match number {
@@ -79,6 +79,7 @@ pub fn reason(number: u32) -> &'static str {
         20 => "the output buffer is shorter than the result",
         21 => "build: coordinates not three a vertex, or corners not four a piece",
         22 => "a base record with a negative value",
+        23 => "a base vertex that lies in a closed base piece and isn't one of its corners",
         30 => "a named record that is uncut",
         _ => "no such number",
     }

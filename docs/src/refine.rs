@@ -18,7 +18,7 @@ pub fn selection(job: u32, round: u16, numbers: &[u16]) -> Vec<u8> {
     bytes
 }
 
-/// "Refine gives 1 to 20", and 22 as check does. "Refine and build return the number alone, 0 on
+/// "Refine gives 1 to 20", and 22 and 23 as check does. "Refine and build return the number alone, 0 on
 /// acceptance."
 pub fn refine(mesh: &[u8], selection: &[u8], out: &mut [u8]) -> u32 {
     deliver(refine_vec(mesh, selection), out)
@@ -26,7 +26,7 @@ pub fn refine(mesh: &[u8], selection: &[u8], out: &mut [u8]) -> u32 {
 
 /// "Pass one cuts the selected records; each later pass cuts every leaf that has a hanging edge
 /// when the pass begins; it ends when there is none. Within a pass records go in rising number."
-/// Refuses with 1 to 19 and 22; the result is as long as it has to be.
+/// Refuses with 1 to 19, 22 and 23; the result is as long as it has to be.
 pub fn refine_vec(mesh: &[u8], selection: &[u8]) -> Result<Vec<u8>, u32> {
     let (mut mesh, mut pairs) = judge(mesh).map_err(|refusal| refusal.number as u32)?;
     let selected = selected(&mesh, selection)?;

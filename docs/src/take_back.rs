@@ -9,13 +9,13 @@ use crate::refine::named;
 use std::collections::HashMap;
 
 /// The number alone, 0 on acceptance: "1 to 15, 18 and 20 as in refine, and 30 for a named record that
-/// is uncut, in 16's place"; among refine's is 22.
+/// is uncut, in 16's place"; among refine's are 22 and 23.
 pub fn take_back(mesh: &[u8], request: &[u8], out: &mut [u8]) -> u32 {
     deliver(take_back_vec(mesh, request), out)
 }
 
-/// "The request names cut records in the selection's layout." Refuses with 1 to 15, 22, 30 and
-/// 18; the result is as long as it has to be.
+/// "The request names cut records in the selection's layout." Refuses with 1 to 15, 22, 23, 30
+/// and 18; the result is as long as it has to be.
 pub fn take_back_vec(mesh: &[u8], request: &[u8]) -> Result<Vec<u8>, u32> {
     let (mut mesh, _) = judge(mesh).map_err(|refusal| refusal.number as u32)?;
     let named = named(&mesh, request)?;

@@ -52,6 +52,14 @@ fn a_refused_mesh() {
     left.records[5] = turned(&left.records[5], 0, 3);
     assert_eq!(check(&left.bytes()).number, 22);
     assert_eq!(list(&left.bytes()), b"refused 22\n");
+    let mut on_an_edge = on_an_edge_of_k([0; 3]);
+    assert_eq!(check(&on_an_edge.bytes()).number, 23);
+    assert_eq!(list(&on_an_edge.bytes()), b"refused 23\n");
+    cut_one(&mut on_an_edge, 1, Way::Right);
+    assert_eq!(list(&on_an_edge.bytes()), b"refused 23\n");
+    let off_the_edge = on_an_edge_of_k([-32, 0, 0]);
+    let heading = "job 7 round 0 vertices 8 records 2 leaves 2 deepest 0 sixfold ";
+    assert!(list(&off_the_edge.bytes()).starts_with(heading.as_bytes()));
 }
 
 #[test]

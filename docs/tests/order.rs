@@ -4,10 +4,10 @@ mod common;
 use common::*;
 use second::{build_vec, check, refine, selection};
 
-/// The rules of a stored mesh, as they are tried: 22 "after 5 and before 6".
-const OF_A_MESH: [u32; 11] = [1, 2, 3, 4, 5, 22, 6, 7, 8, 9, 10];
+/// The rules of a stored mesh, as they are tried: 22 "after 5 and before 6", 23 "after 8 and before 9".
+const OF_A_MESH: [u32; 12] = [1, 2, 3, 4, 5, 22, 6, 7, 8, 23, 9, 10];
 
-/// A mesh that breaks exactly the given rules of 1 to 10 and 22.
+/// A mesh that breaks exactly the given rules of 1 to 10, 22 and 23.
 fn breaking(broken: &[u32]) -> Vec<u8> {
     let breaks = |number: u32| broken.contains(&number);
     let block = |x: i16| [[x, 0, 0], [x + 64, 0, 0], [x + 64, 64, 0], [x + 64, 64, 64]];
@@ -17,6 +17,11 @@ fn breaking(broken: &[u32]) -> Vec<u8> {
     places.extend([[512, 0, 0], [608, 0, 0], [512, 32, 0], [512, 0, 32]]);
     places.extend([[512, -32, 0], [512, 0, -32]]);
     places.extend(block(640));
+    places.extend(block(768));
+    if breaks(23) {
+        // 27, the corner of a piece that shares nothing, in the middle of the edge 23-26.
+        places[27] = [672, 32, 32];
+    }
     if breaks(8) {
         places.push([0, 0, 640]);
     }
@@ -35,6 +40,7 @@ fn breaking(broken: &[u32]) -> Vec<u8> {
             piece([17, 18, 19, 20], o),
             piece([17, 18, 21, 22], o),
             piece([23, 24, 25, 26], a),
+            piece([27, 28, 29, 30], a),
         ],
     );
     cut_one(&mut stored, 0, Way::Right);
@@ -43,7 +49,7 @@ fn breaking(broken: &[u32]) -> Vec<u8> {
         cut_one(&mut stored, 6, Way::Right);
     }
     if breaks(9) {
-        stored.records[8].flag = 1;
+        stored.records[9].flag = 1;
     }
     if breaks(7) {
         stored.records[4].marks[3] = 1;
@@ -79,8 +85,8 @@ fn subset(bits: u32, rules: &[u32]) -> Vec<u32> {
 }
 
 #[test]
-fn every_subset_of_1_to_10_and_22() {
-    for bits in 0..2048 {
+fn every_subset_of_1_to_10_and_22_and_23() {
+    for bits in 0..4096 {
         let broken = subset(bits, &OF_A_MESH);
         let report = check(&breaking(&broken));
         let least = broken.first().copied().unwrap_or(0);
@@ -91,6 +97,31 @@ fn every_subset_of_1_to_10_and_22() {
         let figures = (report.leaves, report.deepest, report.sixfold);
         assert_eq!(figures == (0, 0, 0), least != 0, "{broken:?}");
     }
+}
+
+/// 23 "after 8 and before 9", by every service that reads a mesh.
+#[test]
+fn refusal_23_in_its_place() {
+    for (broken, number) in [
+        (&[23][..], 23),
+        (&[23, 9], 23),
+        (&[23, 10], 23),
+        (&[23, 9, 10], 23),
+        (&[8, 23], 8),
+        (&[7, 23], 7),
+        (&[6, 23], 6),
+        (&[22, 23], 22),
+        (&[5, 23], 5),
+        (&[4, 23], 4),
+        (&[7, 8, 23, 9, 10], 7),
+    ] {
+        mesh_refused(&format!("{broken:?}"), &breaking(broken), number);
+    }
+    // Vertex 27 in record 7 is all that is wrong.
+    let found = vertices_in_pieces(&decode(&breaking(&[23])));
+    assert_eq!(found, [(27, 7)]);
+    assert_eq!(vertices_in_pieces(&decode(&breaking(&[]))), []);
+    mesh_accepted("none", &breaking(&[]));
 }
 
 /// Pieces that share nothing, the first refined to generation 15 at one place; as many as make
@@ -184,7 +215,7 @@ fn a_leaf_of_14_where_the_tables_have_no_room() {
 
 #[test]
 fn every_number_has_words() {
-    let words: Vec<&str> = (0..=22).chain([30]).map(second::reason).collect();
+    let words: Vec<&str> = (0..=23).chain([30]).map(second::reason).collect();
     assert!(words.iter().all(|words| words.len() > 5));
     for (n, one) in words.iter().enumerate() {
         assert!(words[..n].iter().all(|other| other != one));
@@ -194,7 +225,11 @@ fn every_number_has_words() {
         "another round: the selection has expired"
     );
     assert_eq!(second::reason(22), "a base record with a negative value");
+    assert_eq!(
+        second::reason(23),
+        "a base vertex that lies in a closed base piece and isn't one of its corners"
+    );
     assert_eq!(second::reason(30), "a named record that is uncut");
-    assert_eq!(second::reason(23), "no such number");
+    assert_eq!(second::reason(24), "no such number");
     assert_eq!(second::reason(u32::MAX), "no such number");
 }

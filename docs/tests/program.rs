@@ -260,6 +260,24 @@ fn a_refusal_writes_no_file() {
     refuses(desk.run(&["take-back", "left", "choice", "new"]), negative);
     refuses(desk.run(&["select", "left", "new", "0"]), negative);
 
+    desk.write("on-an-edge", &on_an_edge_of_k([0; 3]).bytes());
+    let inside =
+        "refused 23: a base vertex that lies in a closed base piece and isn't one of its corners\n";
+    refuses(desk.run(&["check", "on-an-edge"]), inside);
+    refuses(desk.run(&["refine", "on-an-edge", "choice", "old"]), inside);
+    refuses(
+        desk.run(&["take-back", "on-an-edge", "choice", "new"]),
+        inside,
+    );
+    refuses(desk.run(&["select", "on-an-edge", "new", "0"]), inside);
+    desk.write(
+        "on.txt",
+        b"v 0 0 0\nv 64 0 0\nv 64 64 0\nv 64 64 64\np 0 1 2 3\n\
+          v 32 32 32\nv -64 64 0\nv -64 128 0\nv -64 64 64\np 4 5 6 7\n",
+    );
+    refuses(desk.run(&["build", "7", "on.txt", "new"]), inside);
+    refuses(desk.run(&["build", "7", "on.txt", "old"]), inside);
+
     let one = format!("refused 1: {}\n", second::reason(1));
     desk.write("short", &k()[..30]);
     refuses(desk.run(&["check", "short"]), &one);
@@ -272,7 +290,17 @@ fn a_refusal_writes_no_file() {
     assert_eq!(desk.read("old"), b"old");
     assert_eq!(
         desk.files(),
-        ["choice", "hanging", "k", "left", "off.txt", "old", "short"]
+        [
+            "choice",
+            "hanging",
+            "k",
+            "left",
+            "off.txt",
+            "old",
+            "on-an-edge",
+            "on.txt",
+            "short"
+        ]
     );
 }
 
@@ -284,6 +312,10 @@ fn the_listing_of_what_is_refused() {
     let mut mesh = k();
     mesh[19] = 1;
     refuses(desk.run_with_input(&["list"], &mesh), "refused 2\n");
+    refuses(
+        desk.run_with_input(&["list"], &on_an_edge_of_k([0; 3]).bytes()),
+        "refused 23\n",
+    );
     refuses(
         desk.run_with_input(&["list"], &vec![0; FULL + 1]),
         "refused 1\n",

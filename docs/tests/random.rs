@@ -44,6 +44,17 @@ impl Plain {
         self.solid(piece)
             && (0..4).all(|i| self.face_count(face_set(piece, i)) < 2)
             && self.pieces.iter().all(|&p| corners(p) != corners(piece))
+            && self.keeps_apart(piece)
+    }
+
+    /// No vertex lies in the piece, and none of its corners in another piece, but as a corner.
+    fn keeps_apart(&self, piece: [u16; 4]) -> bool {
+        let place = |n: u16| self.places[n as usize];
+        let lies_in = |n: u16, p: [u16; 4]| !p.contains(&n) && is_mean(p.map(place), place(n));
+        let mut vertices = 0..self.places.len() as u16;
+        let mut others = self.pieces.iter();
+        !vertices.any(|n| lies_in(n, piece))
+            && !others.any(|&other| piece.iter().any(|&n| lies_in(n, other)))
     }
 
     /// Another numbering of the vertices, another order of the pieces, other slots.
@@ -83,7 +94,8 @@ impl Plain {
     }
 }
 
-/// Pieces joined at random on faces, edges, corners or nowhere; they may overlap.
+/// Pieces joined at random on faces, edges, corners or nowhere; they may overlap, with no vertex inside
+/// one another.
 fn joined(random: &mut Random, pieces: usize) -> Plain {
     let span = [3, 8, 200, 1_023][random.below(4)];
     let mut plain = Plain {
@@ -153,6 +165,26 @@ fn block(random: &mut Random, sides: [usize; 3], keep: usize) -> Plain {
         }
     }
     Plain { places, pieces }.mixed(random)
+}
+
+/// The middle of some edge of the pieces, if one is on the grid where no vertex stands.
+fn middle_of_an_edge(
+    random: &mut Random,
+    places: &[[i16; 3]],
+    pieces: &[[u16; 4]],
+) -> Option<[i16; 3]> {
+    let place = |corner: u16| places.get(corner as usize).map(|p| p.map(i32::from));
+    let mut middles = Vec::new();
+    for (piece, (one, other)) in pieces.iter().flat_map(|p| CODES.map(|code| (p, code))) {
+        if let (Some(a), Some(b)) = (place(piece[one]), place(piece[other])) {
+            let sum = [0, 1, 2].map(|i| a[i] + b[i]);
+            let middle = sum.map(|x| (x / 2) as i16);
+            if sum.iter().all(|x| x % 64 == 0) && !places.contains(&middle) {
+                middles.push(middle);
+            }
+        }
+    }
+    (!middles.is_empty()).then(|| middles[random.below(middles.len())])
 }
 
 /// Marks by a random strict order of the edges.
@@ -552,7 +584,7 @@ fn random_meshes_near_the_limits() {
                 marked_by_order(&mut random, &plain).bytes()
             }
         } else {
-            let (vertices, records) = (700 + random.below(300), 1_500 + random.below(1_500));
+            let (vertices, records) = (750 + random.below(250), 1_500 + random.below(1_500));
             let (coordinates, corners) = crowded(vertices as u16, records, random.next());
             build_vec(1, &coordinates, &corners).unwrap()
         };
@@ -707,7 +739,7 @@ fn damage(random: &mut Random, stored: &mut Stored) {
         1 => random.next() as u16,
         _ => random.below(bound + 2) as u16,
     };
-    match random.below(23) {
+    match random.below(25) {
         0 => stored.vertices[v].place[random.below(3)] += [-32, -1, 1, 16, 32, 64][random.below(6)],
         1 => stored.vertices[v].place = stored.vertices[random.below(vertices)].place,
         2 => stored.vertices[v].parents[random.below(2)] = some_number(random, vertices),
@@ -744,6 +776,17 @@ fn damage(random: &mut Random, stored: &mut Stored) {
                 stored.records[r] = turned(&record, one, other);
             }
         }
+        // A base vertex in the middle of an edge of a base record: often it hangs there.
+        21 | 22 => {
+            let base = (stored.base_vertices as usize).clamp(1, vertices);
+            let places: Vec<[i16; 3]> = stored.vertices[..base].iter().map(|v| v.place).collect();
+            let base_records = (stored.base_records as usize).min(records);
+            let pieces = stored.records[..base_records].iter().map(|r| r.corners);
+            let pieces: Vec<[u16; 4]> = pieces.collect();
+            if let Some(middle) = middle_of_an_edge(random, &places, &pieces) {
+                stored.vertices[random.below(base)].place = middle;
+            }
+        }
         // A cut that is not closed: often a hanging edge and nothing else.
         _ => {
             let mut leaves = stored.leaves();
@@ -769,7 +812,7 @@ fn damaged_meshes() {
     let seed = seed() + 3;
     println!("seed {seed}");
     let mut random = Random(seed);
-    let mut given = [0u32; 23];
+    let mut given = [0u32; 24];
     for _ in 0..250 {
         let mut mesh = random_mesh(&mut random, 6);
         for _ in 0..random.below(4) {
@@ -829,7 +872,7 @@ fn damaged_meshes() {
         }
     }
     println!("numbers given: {given:?}");
-    for number in (0..=10).chain([22]) {
+    for number in (0..=10).chain([22, 23]) {
         assert!(given[number] > 0, "{number}");
     }
 }
@@ -839,7 +882,7 @@ fn bytes_of_any_sort() {
     let seed = seed() + 4;
     println!("seed {seed}");
     let mut random = Random(seed);
-    let mut given = [0u32; 23];
+    let mut given = [0u32; 24];
     for _ in 0..30_000 {
         // Headers that fit their length, so that what follows is looked at.
         let (vertices, records) = (4 + random.below(8), 1 + random.below(6));
@@ -920,6 +963,15 @@ fn bytes_of_any_sort() {
         let number = second::build(random.next() as u32, &coordinates, &corners, &mut out);
         given[number as usize] += 1;
         assert_ne!(number, 22, "build never gives 22");
+        if [0, 20, 23].contains(&number) {
+            let places: Vec<[i16; 3]> = coordinates.chunks(3).map(|p| [p[0], p[1], p[2]]).collect();
+            let taken: Vec<[u16; 4]> = corners
+                .chunks(4)
+                .map(|p| [p[0], p[1], p[2], p[3]])
+                .collect();
+            let found = vertices_in_pieces(&of_type_o(&places, &taken));
+            assert_eq!(found.is_empty(), number != 23);
+        }
         if number == 0 {
             let length = 20 + 10 * vertices + 17 * pieces;
             assert_eq!(naive_check(&out[..length]), (0, 0, 0));
@@ -943,12 +995,12 @@ fn build_takes_pieces_of_either_hand() {
     let seed = seed() + 7;
     println!("seed {seed}");
     let mut random = Random(seed);
-    let mut given = [0u32; 23];
+    let mut given = [0u32; 24];
     for _ in 0..3_000 {
         let count = 1 + random.below(6);
         let mut plain = joined(&mut random, count);
         // Half of the time something is wrong.
-        match random.below(8) {
+        match random.below(10) {
             0 => plain.places.push([32_736, 32_736, -32_736]),
             1 => {
                 let mut again = plain.pieces[random.below(count)];
@@ -957,6 +1009,19 @@ fn build_takes_pieces_of_either_hand() {
             }
             2 => plain.pieces[random.below(count)][3] = random.below(plain.places.len() + 1) as u16,
             3 => plain.places[0] = plain.places[1],
+            // A piece more with a corner in the middle of an edge.
+            4 => {
+                if let Some(middle) = middle_of_an_edge(&mut random, &plain.places, &plain.pieces) {
+                    let new = plain.places.len() as u16;
+                    plain.places.push(middle);
+                    plain.places.extend([
+                        [32_736, 32_704, -32_736],
+                        [32_704, 32_736, -32_736],
+                        [32_736, 32_736, -32_704],
+                    ]);
+                    plain.pieces.push([new, new + 1, new + 2, new + 3]);
+                }
+            }
             _ => {}
         }
         let number = |plain: &Plain| build_vec(3, &plain.coordinates(), &plain.corners());
@@ -994,11 +1059,90 @@ fn build_takes_pieces_of_either_hand() {
         }
     }
     println!("numbers given: {given:?}");
-    for number in [0, 4, 5, 7, 8] {
+    for number in [0, 4, 5, 7, 8, 23] {
         assert!(given[number] > 50, "{number}: {}", given[number]);
     }
     assert_eq!(given.iter().sum::<u32>(), 3_000);
     assert_eq!(given[22], 0);
+}
+
+/// Two pieces, a corner of the one put on an edge, on a face, inside or outside of the other by weights
+/// of its corners, or one step beside such a place.
+#[test]
+fn a_corner_about_another_piece() {
+    let seed = seed() + 8;
+    println!("seed {seed}");
+    let mut random = Random(seed);
+    let mut given = [[0u32; 2]; 5];
+    for _ in 0..30_000 {
+        // The corners are multiples of the weights' sum, so that the place is on the grid.
+        let sum = 4 + random.below(5) as i32;
+        let span = [1, 2, 10, 1_023 / sum as usize][random.below(4)];
+        let mut coordinate = |_: i32| random.below(2 * span + 1) as i32 - span as i32;
+        let corners = [[0; 3]; 4].map(|corner| corner.map(&mut coordinate));
+        // On an edge, on a face, inside, outside; each may be left by a step.
+        let kind = random.below(4);
+        let mut weights = match kind {
+            0 => [sum - 1, 1, 0, 0],
+            1 => [sum - 2, 1, 1, 0],
+            2 => [sum - 3, 1, 1, 1],
+            _ => [sum, 1, -1, 0],
+        };
+        for _ in 0..random.below(sum as usize) {
+            if weights[0] > 1 {
+                weights[0] -= 1;
+                weights[1 + random.below([1, 2, 3, 1][kind])] += 1;
+            }
+        }
+        random.shuffle(&mut weights);
+        let mut place = [0, 1, 2].map(|i| (0..4).map(|c| weights[c] * corners[c][i]).sum::<i32>());
+        let beside = random.below(3) == 0;
+        if beside {
+            place[random.below(3)] += [-1, 1][random.below(2)];
+        }
+        if place.iter().any(|x| x.abs() > 1_023) {
+            continue;
+        }
+        let mut places = corners.map(|corner| corner.map(|x| 32 * sum * x)).to_vec();
+        places.push(place.map(|x| 32 * x));
+        let far = [1_023, 2 * span * sum as usize][random.below(2)].min(1_023);
+        for _ in 0..3 {
+            places.push([0; 3].map(|_| 32 * (random.below(2 * far + 1) as i32 - far as i32)));
+        }
+        let mut pieces = vec![[0, 1, 2, 3], [4, 5, 6, 7]];
+        if random.below(3) == 0 {
+            // They have a corner in common.
+            places.pop();
+            pieces[1][3] = random.below(4) as u16;
+        }
+        let places: Vec<[i16; 3]> = places.iter().map(|p| p.map(|x| x as i16)).collect();
+        let (first, corner) = ([0, 1, 2, 3].map(|n| places[n]), places[4]);
+        let plain = Plain { places, pieces }.mixed(&mut random);
+        let different = BTreeSet::from_iter(&plain.places).len() == plain.places.len();
+        if !different || !plain.pieces.iter().all(|&piece| plain.solid(piece)) {
+            continue;
+        }
+        let stored = of_type_o(&plain.places, &plain.pieces);
+        let number = if vertices_in_pieces(&stored).is_empty() {
+            0
+        } else {
+            23
+        };
+        // What the weights say; the other corners may lie anyhow.
+        let lies_in = is_mean(first, corner);
+        assert!(beside || lies_in == (kind < 3));
+        assert!(!lies_in || number == 23);
+        assert_eq!(check(&stored.bytes()).number, number);
+        assert_eq!(naive_check(&stored.bytes()), (number, 0, 0));
+        let built = build_vec(3, &plain.coordinates(), &plain.corners());
+        assert_eq!(built.err().unwrap_or(0) as u64, number);
+        given[if beside { 4 } else { kind }][(number != 0) as usize] += 1;
+    }
+    println!("on an edge, on a face, inside, outside, beside: {given:?}");
+    assert!(given[..3]
+        .iter()
+        .all(|&[zero, twenty_three]| zero == 0 && twenty_three > 1_000));
+    assert!(given[3..].iter().flatten().all(|&count| count > 500));
 }
 
 #[test]

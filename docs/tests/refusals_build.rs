@@ -1,4 +1,4 @@
-//! Build: the refusals it gives (21, 3, 4, 5, 7, 8, 20), its marks, and what it does with left-handed
+//! Build: the refusals it gives (21, 3, 4, 5, 7, 8, 23, 20), its marks, and what it does with left-handed
 //! pieces: it never gives 22.
 
 mod common;
@@ -142,6 +142,91 @@ fn refusal_8() {
     build_refused("1,020 vertices unused", &many, &[0, 1, 11, 110], 8);
 }
 
+/// Two pieces: one in the corner of a cube, and one that has vertex 4 at the place and its other corners
+/// beyond the face 0 1 2.
+fn spike(place: [i16; 3]) -> Vec<i16> {
+    let places = [[0, 0, 0], [128, 0, 0], [0, 128, 0], [0, 0, 128]];
+    let others = [[0, 0, -640], [64, 0, -640], [0, 64, -640]];
+    [&places[..], &[place], &others].concat().concat()
+}
+
+#[test]
+fn refusal_23() {
+    let pieces = [0, 1, 2, 3, 4, 5, 6, 7];
+    for (name, place) in [
+        ("in the middle of an edge", [64, 0, 0]),
+        ("in the middle of another", [0, 64, 64]),
+        ("on an edge, next to a corner", [0, 0, 96]),
+        ("in a face", [32, 32, 0]),
+        ("in another", [32, 64, 32]),
+        ("strictly inside", [32, 32, 32]),
+        ("one step off an edge, in a face", [64, 32, 0]),
+    ] {
+        build_refused(name, &spike(place), &pieces, 23);
+        // The other piece first.
+        build_refused(name, &spike(place), &[4, 5, 6, 7, 0, 1, 2, 3], 23);
+    }
+    for (name, place) in [
+        ("one step off an edge", [64, -32, 0]),
+        ("one step off another", [0, 96, 64]),
+        ("one step off a face", [32, 32, -32]),
+        ("one step beyond a corner", [160, 0, 0]),
+        ("in the plane of a face", [96, 96, 0]),
+        ("in the plane of another", [-32, 64, 96]),
+        ("on the line of an edge", [0, -32, 0]),
+    ] {
+        let mesh = build_vec(7, &spike(place), &pieces);
+        mesh_accepted(
+            name,
+            &mesh.unwrap_or_else(|number| panic!("{name}: {number}")),
+        );
+    }
+    // At a corner: by the same number it is a corner, by another it is 4's.
+    assert!(build_vec(7, &spike([0; 3])[..12], &pieces[..4]).is_ok());
+    build_refused("at one place", &spike([0; 3]), &pieces, 4);
+    let shared = [&spike([0; 3])[..12], &spike([0; 3])[15..]].concat();
+    assert!(build_vec(7, &shared, &[0, 1, 2, 3, 0, 4, 5, 6]).is_ok());
+    // 4 is the middle of 0-1, and the neighbour has halves of its face 0 1 3.
+    let halves = [&spike([64, 0, 0])[..15], &[0, -128, 0]].concat();
+    let [a, b] = [[0, 4, 3, 5], [4, 1, 3, 5]];
+    build_refused("halves", &halves, &[[0, 1, 2, 3], a, b].concat(), 23);
+    build_refused("one half", &halves, &[[0, 1, 2, 3], a].concat(), 23);
+    let four = [[0, 4, 2, 3], [4, 1, 2, 3], a, b].concat();
+    assert!(build_vec(7, &halves, &four).is_ok());
+    // The cube with one of its sides' middles for a corner of one more piece.
+    let cube = [
+        cube_coordinates(64),
+        vec![32, 32, 0, 0, 0, -64, 64, 0, -64, 0, 64, -64],
+    ]
+    .concat();
+    let corners = [&CUBE_CORNERS[..], &[8, 9, 10, 11]].concat();
+    build_refused("on the diagonal of a side", &cube, &corners, 23);
+}
+
+/// "Pieces that overlap with no vertex inside one another stay unjudged."
+#[test]
+fn not_23_pieces_that_overlap() {
+    // The two pieces whose edges cross in the middles of a cube's sides, also as large as can be.
+    for size in [32, 32_736] {
+        let cube = cube_coordinates(1).into_iter().map(|x| size * (2 * x - 1));
+        let cube: Vec<i16> = cube.collect();
+        let mesh = build_vec(7, &cube, &[0, 3, 5, 6, 1, 2, 4, 7]).unwrap();
+        mesh_accepted("a star", &mesh);
+        assert_eq!(check(&mesh).sixfold, 4 * (2 * size as u64).pow(3));
+        // Corner 7 in the middle of a side, and so of an edge of the other piece.
+        for axis in 0..3 {
+            let mut pulled = cube.clone();
+            (0..3)
+                .filter(|&i| i != axis)
+                .for_each(|i| pulled[21 + i] = 0);
+            build_refused("pulled in", &pulled, &[0, 3, 5, 6, 1, 2, 4, 7], 23);
+        }
+        // And in the middle of the cube.
+        let inside = [&cube[..21], &[0, 0, 0]].concat();
+        build_refused("inside", &inside, &[0, 3, 5, 6, 1, 2, 4, 7], 23);
+    }
+}
+
 #[test]
 fn refusal_20() {
     for short in [0, 1, 20, 76] {
@@ -159,7 +244,7 @@ fn refusal_20() {
 
 #[test]
 fn every_subset_of_the_refusals_gets_the_first_that_build_tries() {
-    let order = [21, 3, 4, 5, 7, 8, 20];
+    let order = [21, 3, 4, 5, 7, 8, 23, 20];
     for subset in 0..1u32 << order.len() {
         let broken: Vec<u32> = (0..order.len())
             .filter(|i| subset >> i & 1 == 1)
@@ -169,6 +254,11 @@ fn every_subset_of_the_refusals_gets_the_first_that_build_tries() {
         // The cube with a piece on the outside of its face 0 1 3; four of the seven are left-handed.
         let mut coordinates = [cube_coordinates(64), vec![64, 0, -64]].concat();
         let mut corners = [&CUBE_CORNERS[..], &[0, 1, 3, 8]].concat();
+        if breaks(23) {
+            // A piece that has vertex 8 in the middle of its edge 9-10.
+            coordinates.extend([32, 0, -64, 96, 0, -64, 64, 32, -128, 64, -32, -128]);
+            corners.extend([9, 10, 11, 12]);
+        }
         if breaks(8) {
             coordinates.extend([320, 320, 320]);
         }
@@ -306,9 +396,9 @@ fn left_handed_pieces_among_others() {
     }
 }
 
-/// 7 and 8 don't see the exchange: each number is the same for every hand of every piece.
+/// 7, 8 and 23 don't see the exchange: each number is the same for every hand of every piece.
 #[test]
-fn refusals_7_and_8_in_either_hand() {
+fn refusals_7_8_and_23_in_either_hand() {
     let places: [[i16; 3]; 7] = [
         [0, 0, 0],
         [64, 0, 0],
@@ -318,22 +408,52 @@ fn refusals_7_and_8_in_either_hand() {
         [32, 0, -64],
         [640, 640, 640],
     ];
-    let coordinates = places.concat();
     let cases: [(&[[u16; 4]], usize, u32); 4] = [
         (&[[0, 1, 2, 3], [0, 1, 2, 4], [2, 5, 1, 0]], 6, 7),
         (&[[0, 1, 2, 3], [0, 1, 2, 4], [3, 1, 0, 2]], 5, 7),
         (&[[0, 1, 2, 3], [0, 1, 2, 4], [5, 1, 4, 0]], 6, 0),
         (&[[0, 1, 2, 3], [0, 1, 2, 4], [5, 1, 4, 0]], 7, 8),
     ];
-    for (pieces, vertices, number) in cases {
+    let in_either_hand = |places: &[[i16; 3]], pieces: &[[u16; 4]], number: u32| {
         for bits in 0..8 {
             let mut pieces = pieces.to_vec();
             for n in (0..3).filter(|n| bits >> n & 1 == 1) {
                 pieces[n].swap(bits % 3, 3);
             }
             let mut out = vec![0xAA; FULL];
-            let given = build(7, &coordinates[..3 * vertices], &pieces.concat(), &mut out);
+            let given = build(7, &places.concat(), &pieces.concat(), &mut out);
             assert_eq!(given, number, "{pieces:?}");
         }
+    };
+    for (pieces, vertices, number) in cases {
+        in_either_hand(&places[..vertices], pieces, number);
+    }
+    // Two pieces on a face, and a third with its corner 8 on an edge, in a face, inside, or outside.
+    let pieces = [[0, 1, 2, 3], [0, 1, 2, 4], [5, 6, 7, 8]];
+    let mut places = [
+        [0, 0, 0],
+        [128, 0, 0],
+        [0, 128, 0],
+        [0, 0, 128],
+        [32, 32, -128],
+        [640, 640, 576],
+        [576, 640, 640],
+        [640, 576, 640],
+        [0, 0, 0],
+    ];
+    for (corner, number) in [
+        ([64, 0, 0], 23),
+        ([64, 64, 0], 23),
+        ([0, 64, 64], 23),
+        ([32, 32, 0], 23),
+        ([32, 32, 32], 23),
+        ([32, 32, -32], 23),
+        ([64, -32, 0], 0),
+        ([64, 64, 32], 0),
+        ([96, 96, 0], 0),
+        ([160, 0, 0], 0),
+    ] {
+        places[8] = corner;
+        in_either_hand(&places, &pieces, number);
     }
 }

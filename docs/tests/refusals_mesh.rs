@@ -1,4 +1,4 @@
-//! Refusals 1 to 10 and 22: for each clause inputs that earn it, and inputs just short of it that
+//! Refusals 1 to 10, 22 and 23: for each clause inputs that earn it, and inputs just short of it that
 //! don't.
 
 mod common;
@@ -118,6 +118,7 @@ fn refusal_3() {
     assert_eq!(largest.len(), FULL);
     mesh_accepted("the largest mesh", &largest);
     assert_eq!(check(&largest).leaves, 3_072);
+    assert_eq!(vertices_in_pieces(&decode(&largest)), []);
     assert!(second::list(&largest).starts_with(b"job 1 round 0 vertices 1024 records 3072 "));
 }
 
@@ -211,7 +212,7 @@ fn refusal_4_made() {
 
 #[test]
 fn not_4_a_made_vertex_at_another_vertexs_place() {
-    // Two pieces that overlap: 0-1 and 4-5 cross in their midpoints, and vertex 8 stands there.
+    // Two pieces that overlap, no vertex in one another: 0-1 and 4-5 cross in their midpoints.
     let places = [
         [-64, 0, 0],
         [64, 0, 0],
@@ -223,25 +224,31 @@ fn not_4_a_made_vertex_at_another_vertexs_place() {
         [32, -32, 0],
         [0, 0, 0],
     ];
-    let edge_0 = |corners| (corners, 0, [5, 5, 0, 0]);
-    let pieces = [
-        edge_0([0, 1, 2, 3]),
-        edge_0([4, 5, 7, 6]),
-        edge_0([8, 1, 6, 2]),
-    ];
-    let mut stored = marked(&places, &pieces);
+    let pieces = [[0, 1, 2, 3], [4, 5, 7, 6], [8, 1, 6, 2]];
+    let uncut = of_type_o(&places[..8], &pieces[..2]);
+    let mut stored = uncut.clone();
     mesh_accepted("uncut", &stored.bytes());
     cut_one(&mut stored, 0, Way::Right);
+    assert_eq!(stored.vertices[8].place, [0, 0, 0]);
+    // By place it lies on 4-5; made vertices are judged by their parents alone.
+    mesh_accepted("one cut", &stored.bytes());
     cut_one(&mut stored, 1, Way::Right);
     assert_eq!(stored.vertices[9].place, [0, 0, 0]);
-    assert_eq!(stored.vertices[10].place, [0, 0, 0]);
-    mesh_accepted(
+    mesh_accepted("two made vertices at one place", &stored.bytes());
+    // The same by refine.
+    let result = refined(&uncut.bytes(), &[0, 1]);
+    assert_eq!(decode(&result).vertices, stored.vertices);
+    // A base vertex that stands there lies on both edges, cut or not.
+    let mut stored = of_type_o(&places, &pieces);
+    mesh_refused("a base vertex on two edges", &stored.bytes(), 23);
+    cut_one(&mut stored, 0, Way::Right);
+    cut_one(&mut stored, 1, Way::Right);
+    assert_eq!([8, 9, 10].map(|n| stored.vertices[n].place), [[0; 3]; 3]);
+    mesh_refused(
         "two made vertices and a base vertex at one place",
         &stored.bytes(),
+        23,
     );
-    // The same by refine.
-    let result = refined(&marked(&places, &pieces).bytes(), &[0, 1]);
-    assert_eq!(decode(&result).vertices, stored.vertices);
 }
 
 #[test]
@@ -610,6 +617,392 @@ fn refusal_8() {
     // Not earned by a vertex in one record alone.
     mesh_accepted("K", &k());
     mesh_accepted("the cube", &cube());
+}
+
+/// A piece in the corner of a cube: what lies in it has no coordinate below 0, and a sum of 128 at most.
+const IN_A_CORNER: [[i16; 3]; 4] = [[0, 0, 0], [128, 0, 0], [0, 128, 0], [0, 0, 128]];
+
+/// Far off below 0 along an axis, or, for axis 3, where all coordinates are great.
+fn far_off(axis: usize) -> [[i16; 3]; 3] {
+    let mut places = [[640, 640, 576], [576, 640, 640], [640, 576, 640]];
+    if axis < 3 {
+        for (n, place) in places.iter_mut().enumerate() {
+            *place = [0; 3];
+            place[n] = 64;
+            place[axis] = -640;
+        }
+        places[axis][(axis + 1) % 3] = -64;
+    }
+    places
+}
+
+/// The piece above and one that has its first corner, vertex 4, at the place and the others far off.
+fn spike(place: [i16; 3], axis: usize) -> Stored {
+    let places = [&IN_A_CORNER[..], &[place], &far_off(axis)].concat();
+    of_type_o(&places, &[[0, 1, 2, 3], [4, 5, 6, 7]])
+}
+
+#[test]
+fn refusal_23() {
+    for (name, place) in [
+        ("in the middle of edge 0-1", [64, 0, 0]),
+        ("in the middle of edge 0-2", [0, 64, 0]),
+        ("in the middle of edge 0-3", [0, 0, 64]),
+        ("in the middle of edge 1-2", [64, 64, 0]),
+        ("in the middle of edge 1-3", [64, 0, 64]),
+        ("in the middle of edge 2-3", [0, 64, 64]),
+        ("on edge 0-1, next to 0", [32, 0, 0]),
+        ("on edge 2-3, next to 3", [0, 32, 96]),
+        ("in face 0", [32, 32, 64]),
+        ("in face 1", [0, 32, 32]),
+        ("in face 2", [64, 0, 32]),
+        ("in face 3", [32, 64, 0]),
+        ("strictly inside", [32, 32, 32]),
+        ("one step off edge 0-1, in a face", [64, 32, 0]),
+        ("one step off edge 0-1, in the other", [64, 0, 32]),
+        ("one step off edge 1-2, in a face", [32, 64, 0]),
+        ("one step off edge 2-3, in a face", [0, 32, 64]),
+    ] {
+        for axis in 0..4 {
+            let stored = spike(place, axis);
+            assert!(vertices_in_pieces(&stored).contains(&(4, 0)), "{name}");
+            mesh_refused(name, &stored.bytes(), 23);
+        }
+    }
+    for (name, place, axis) in [
+        ("one step off edge 0-1", [64, -32, 0], 1),
+        ("one step off edge 0-1", [64, 0, -32], 2),
+        ("one step off edge 0-1", [64, -32, -32], 2),
+        ("one step off edge 1-2", [64, 96, 0], 3),
+        ("one step off edge 1-2", [96, 64, 0], 3),
+        ("one step off edge 1-2", [64, 64, 32], 3),
+        ("one step off edge 1-2", [64, 64, -32], 2),
+        ("one step off face 0", [32, 32, 96], 3),
+        ("one step off face 1", [-32, 32, 32], 0),
+        ("one step off face 2", [32, -32, 32], 1),
+        ("one step off face 3", [32, 32, -32], 2),
+        ("one step beyond corner 0", [-32, 0, 0], 0),
+        ("one step beyond corner 1", [160, 0, 0], 3),
+        ("on the line of edge 0-2", [0, -64, 0], 1),
+        ("on the line of edge 2-3", [0, 192, -64], 2),
+        ("in the plane of face 0", [-32, 64, 96], 0),
+        ("in the plane of face 0", [192, -32, -32], 1),
+        ("in the plane of face 1", [0, 96, 96], 3),
+        ("in the plane of face 2", [-64, 0, 64], 0),
+        ("in the plane of face 3", [96, 96, 0], 3),
+        ("in the plane of face 3", [64, -64, 0], 1),
+    ] {
+        let stored = spike(place, axis);
+        assert_eq!(vertices_in_pieces(&stored), [], "{name}");
+        mesh_accepted(name, &stored.bytes());
+    }
+}
+
+/// Every place on the grid about the piece, by its coordinates; the corners themselves are taken (4).
+#[test]
+fn refusal_23_at_every_place() {
+    let along = || (-64..=192).step_by(32);
+    let mut given = [0, 0];
+    for place in along().flat_map(|x| along().flat_map(move |y| along().map(move |z| [x, y, z]))) {
+        let sum: i16 = place.iter().sum();
+        let below = (0..3).find(|&axis| place[axis] < 0);
+        let (number, ways) = match below {
+            _ if IN_A_CORNER.contains(&place) => (4, 0..4),
+            None if sum <= 128 => (23, 0..4),
+            // Away from the piece, so that none of its corners lies in the other one.
+            None => (0, 3..4),
+            Some(axis) => (0, axis..axis + 1),
+        };
+        for axis in ways {
+            let stored = spike(place, axis);
+            let mut turned_round = stored.clone();
+            turned_round.records.swap(0, 1);
+            for stored in [stored, turned_round] {
+                let bytes = stored.bytes();
+                assert_eq!(check(&bytes).number, number, "{place:?} {axis}");
+                assert_eq!(naive_check(&bytes), (number, 0, 0), "{place:?} {axis}");
+            }
+        }
+        given[(number != 0) as usize] += 1;
+    }
+    // 35 places lie in the piece, four of them corners.
+    assert_eq!(given, [729 - 35, 35]);
+}
+
+/// "We accepted a base mesh with a vertex in the middle of a neighbour's edge".
+#[test]
+fn refusal_23_a_corner_on_somebody_elses_edge() {
+    // 4 is the middle of 0-1. Beyond the face 0 1 3 there are two pieces, with 5 for a corner.
+    let places = [&IN_A_CORNER[..], &[[64, 0, 0], [0, -128, 0], [0, -64, -64]]].concat();
+    let (whole, halves) = ([2, 3, 0, 1], [[3, 5, 0, 4], [3, 5, 4, 1]]);
+    for pieces in [
+        &[whole, halves[0], halves[1]][..],
+        &[halves[0], whole, halves[1]],
+        &[halves[0], halves[1], whole],
+        &[whole, halves[0]],
+        &[halves[1], whole],
+    ] {
+        let stored = of_type_o(&places[..6], pieces);
+        let number = pieces.iter().position(|&piece| piece == whole).unwrap();
+        assert_eq!(vertices_in_pieces(&stored), [(4, number)]);
+        mesh_refused("a neighbour in halves", &stored.bytes(), 23);
+    }
+    // In halves itself, the piece has the vertex for a corner.
+    let four = [[2, 3, 0, 4], [2, 3, 4, 1], halves[0], halves[1]];
+    mesh_accepted("both in halves", &of_type_o(&places[..6], &four).bytes());
+    // Only a corner in common.
+    let stored = of_type_o(&places, &[whole, [0, 4, 5, 6]]);
+    mesh_refused("half of the edge", &stored.bytes(), 23);
+    // A face in common, and the other corner on the same side of it.
+    let on_a_face = |place: [i16; 3]| {
+        let places = [&IN_A_CORNER[..], &[place]].concat();
+        of_type_o(&places, &[[0, 1, 2, 3], [0, 1, 2, 4]]).bytes()
+    };
+    mesh_refused("inside", &on_a_face([32, 32, 32]), 23);
+    mesh_refused("3 inside the other", &on_a_face([-32, -32, 256]), 23);
+    mesh_refused("3 on an edge of the other", &on_a_face([0, 0, 160]), 23);
+    mesh_refused("3 in a face of the other", &on_a_face([-32, 0, 192]), 23);
+    mesh_accepted("beside", &on_a_face([-32, -32, 128]));
+    mesh_accepted("across the face", &on_a_face([32, 32, -32]));
+}
+
+/// "And isn't one of its corners": by number. Another vertex at that place is 4's.
+#[test]
+fn not_23_at_a_corner() {
+    for (corner, axis) in [(0, 2), (1, 3), (2, 3), (3, 3)] {
+        let places = [&IN_A_CORNER[..], &far_off(axis)].concat();
+        let stored = of_type_o(&places, &[[0, 1, 2, 3], [corner, 4, 5, 6]]);
+        mesh_accepted("a corner in common", &stored.bytes());
+        let place = IN_A_CORNER[corner as usize];
+        mesh_refused("at one place", &spike(place, axis).bytes(), 4);
+    }
+    let places = [&IN_A_CORNER[..], &far_off(2)].concat();
+    let stored = of_type_o(&places[..6], &[[0, 1, 2, 3], [0, 1, 4, 5]]);
+    mesh_accepted("an edge in common", &stored.bytes());
+    let stored = of_type_o(&places[..5], &[[0, 1, 2, 3], [0, 1, 2, 4]]);
+    mesh_accepted("a face in common", &stored.bytes());
+}
+
+/// The two largest pieces in a cube: each has an edge across every side, and the edges cross.
+const STAR: [[i16; 3]; 8] = [
+    [-1, -1, -1],
+    [1, 1, -1],
+    [1, -1, 1],
+    [-1, 1, 1],
+    [1, 1, 1],
+    [-1, -1, 1],
+    [-1, 1, -1],
+    [1, -1, -1],
+];
+
+fn star(size: i16) -> (Vec<[i16; 3]>, [[u16; 4]; 2]) {
+    let places = STAR.map(|place| place.map(|x| size * x));
+    (places.to_vec(), [[0, 1, 2, 3], [4, 5, 6, 7]])
+}
+
+/// "Pieces that overlap with no vertex inside one another stay unjudged."
+#[test]
+fn not_23_pieces_that_overlap() {
+    for size in [32, 64, 32_736] {
+        let (places, pieces) = star(size);
+        let uncut = of_type_o(&places, &pieces);
+        mesh_accepted("a star", &uncut.bytes());
+        // Cut at 0-1 and 6-7, which cross: two made vertices at one place.
+        let cut = of_type_o(&places, &[[0, 1, 2, 3], [6, 7, 4, 5]]);
+        let cut = decode(&refined(&cut.bytes(), &[0, 1]));
+        assert_eq!([8, 9].map(|n| cut.vertices[n].place), [[0, 0, -size]; 2]);
+        mesh_accepted("a star, cut", &cut.bytes());
+        // One corner in the middle of a side, and so of an edge of the other piece.
+        for corner in 0..8 {
+            let axis = corner % 3;
+            let mut places = places.clone();
+            (0..3)
+                .filter(|&i| i != axis)
+                .for_each(|i| places[corner][i] = 0);
+            let stored = of_type_o(&places, &pieces);
+            assert_eq!(
+                vertices_in_pieces(&stored),
+                [(corner as u16, 1 - corner / 4)]
+            );
+            mesh_refused("a corner on an edge", &stored.bytes(), 23);
+        }
+    }
+    // An edge that goes through two faces of the other piece.
+    let through = [[-32, 32, 32], [160, 32, 32], [160, 192, 32], [160, 32, 192]];
+    let places = [&IN_A_CORNER[..], &through].concat();
+    mesh_accepted(
+        "through",
+        &of_type_o(&places, &[[0, 1, 2, 3], [4, 5, 6, 7]]).bytes(),
+    );
+    // One piece inside another, and touching it from inside.
+    for small in [
+        [[32, 32, 32], [64, 32, 32], [32, 64, 32], [32, 32, 64]],
+        [[32, 32, 0], [64, 32, 0], [32, 64, 0], [32, 32, 32]],
+    ] {
+        let places = [&IN_A_CORNER[..], &small].concat();
+        let pieces = [[0, 1, 2, 3], [4, 5, 6, 7]];
+        mesh_refused("within", &of_type_o(&places, &pieces).bytes(), 23);
+    }
+}
+
+/// Where the determinants are largest: the star in the whole grid.
+#[test]
+fn refusal_23_to_the_ends_of_the_grid() {
+    let (places, _) = star(32_736);
+    let whole = of_type_o(&places[..4], &[[0, 1, 2, 3]]);
+    assert_eq!(whole.signed(0), 2 * 65_472i64.pow(3));
+    // The other corners are at an end of the grid, beyond the face 0 1 2.
+    let end: [[i16; 3]; 3] = [
+        [32_704, -32_736, -32_736],
+        [32_736, -32_704, -32_736],
+        [32_736, -32_736, -32_704],
+    ];
+    let with = |place: [i16; 3]| {
+        let places = [&places[..4], &[place], &end].concat();
+        of_type_o(&places, &[[0, 1, 2, 3], [4, 5, 6, 7]])
+    };
+    // The middle of the face, of its edges, and of the piece.
+    let third = 32_736 / 3;
+    for inside in [
+        [third, -third, -third],
+        [third - 32, -third, -third],
+        [third, -third + 32, -third],
+        [0, 0, -32_736],
+        [0, 0, -32_704],
+        [0, -32_736, 0],
+        [32_736, 0, 0],
+        [32_704, 0, 0],
+        [0, 0, 0],
+        [32_704, 32_704, -32_736],
+    ] {
+        let stored = with(inside);
+        assert_eq!(vertices_in_pieces(&stored), [(4, 0)], "{inside:?}");
+        mesh_refused("inside", &stored.bytes(), 23);
+    }
+    // One step off.
+    for outside in [
+        [third + 32, -third, -third],
+        [third, -third - 32, -third],
+        [third, -third, -third - 32],
+        [32, 0, -32_736],
+        [0, -32, -32_736],
+        [32, -32_736, 0],
+        [32_736, -32, 0],
+        [32_736, 32_704, -32_736],
+        [32_736, -32_736, 32_704],
+    ] {
+        let stored = with(outside);
+        assert_eq!(vertices_in_pieces(&stored), [], "{outside:?}");
+        mesh_accepted("outside", &stored.bytes());
+    }
+}
+
+/// "After 8", over the whole mesh, and so after 4 to 7 and 22.
+#[test]
+fn refusal_23_after_8() {
+    let hanging = spike([64, 0, 0], 2);
+    let with = |change: &dyn Fn(&mut Stored)| changed(&hanging, |s| change(s));
+    mesh_refused("23 alone", &with(&|_| {}), 23);
+    // An unused vertex, out in the open or itself in a piece.
+    for place in [[0, 0, 640], [32, 32, 32], [32, 0, 0]] {
+        let unused = |s: &mut Stored| {
+            s.base_vertices += 1;
+            s.vertices.push(Vertex {
+                place,
+                parents: [NONE; 2],
+            });
+        };
+        mesh_refused("8 and 23", &with(&unused), 8);
+        mesh_refused("8", &changed(&k_stored(), |s| unused(s)), 8);
+    }
+    let twice = with(&|s| {
+        s.base_records += 1;
+        s.records.push(s.records[0]);
+    });
+    mesh_refused("7 and 23", &twice, 7);
+    mesh_refused("6 and 23", &with(&|s| s.records[1].marks[0] = 0), 6);
+    let left = with(&|s| s.records[1] = turned(&s.records[1], 0, 1));
+    mesh_refused("22 and 23", &left, 22);
+    mesh_refused("5 and 23", &with(&|s| s.records[1].flag = 1), 5);
+    mesh_refused("4 and 23", &with(&|s| s.vertices[7].place[0] += 16), 4);
+}
+
+/// "Before 9", and so before 10; whatever is cut.
+#[test]
+fn refusal_23_before_9() {
+    let hanging = spike([64, 0, 0], 2);
+    for cut in [&[][..], &[0], &[1], &[0, 1], &[0, 2, 1]] {
+        let mut stored = hanging.clone();
+        cut.iter()
+            .for_each(|&n| cut_one(&mut stored, n, Way::Right));
+        mesh_refused("cut", &stored.bytes(), 23);
+        // The last record isn't what cutting gives, or is no child.
+        let mesh = changed(&stored, |s| s.records.push(*s.records.last().unwrap()));
+        mesh_refused("23 and 9", &mesh, 23);
+    }
+    // 0-1 is cut at that very place: the made vertex and the base vertex stand there both.
+    let mut stored = hanging.clone();
+    cut_one(&mut stored, 0, Way::Right);
+    assert_eq!(stored.vertices[8].place, stored.vertices[4].place);
+    mesh_refused("at the midpoint", &stored.bytes(), 23);
+    // Two more pieces with one edge in common, the one cut and the other not.
+    let edge_in_common = |place: [i16; 3]| {
+        let mut places = [&IN_A_CORNER[..], &[place], &far_off(2)].concat();
+        places.extend([[640, 0, 0], [704, 0, 0], [640, 64, 0], [640, 0, 64]]);
+        places.extend([[640, -64, 0], [640, 0, -64]]);
+        let pieces = [[0, 1, 2, 3], [4, 5, 6, 7], [8, 9, 10, 11], [8, 9, 12, 13]];
+        let mut stored = of_type_o(&places, &pieces);
+        cut_one(&mut stored, 3, Way::Right);
+        stored.bytes()
+    };
+    mesh_refused_at("10", &edge_in_common([64, 0, -32]), 10, (2, 0));
+    mesh_refused("23 and 10", &edge_in_common([64, 0, 0]), 23);
+}
+
+/// "For base meshes": a later record in which a base vertex lies is 9's, if it is anybody's.
+#[test]
+fn not_23_beyond_the_base() {
+    // 0 is the middle of 3-4, which is no edge of the base.
+    let places = [&IN_A_CORNER[..], &[[0, 0, -128]]].concat();
+    let pieces = [[0, 1, 2, 3], [0, 1, 2, 4], [1, 2, 3, 4]];
+    let mut stored = of_type_o(&places, &pieces);
+    assert_eq!(vertices_in_pieces(&stored), [(0, 2)]);
+    stored.base_records = 2;
+    mesh_refused("beyond the base", &stored.bytes(), 9);
+    stored.records.pop();
+    mesh_accepted("without it", &stored.bytes());
+}
+
+/// Every base vertex against every base record: a corner of any piece on an edge of any other, and nothing
+/// else in anything.
+#[test]
+fn refusal_23_any_vertex_and_any_record() {
+    let mut places: Vec<[i16; 3]> = Vec::new();
+    for n in 0..5 {
+        // On a curve that no straight line meets three times.
+        let at = [640 * n, 64 * n * n, 160 * n * n * n];
+        places.extend(
+            K_COORDINATES
+                .chunks(3)
+                .map(|p| [0, 1, 2].map(|i| at[i] + p[i])),
+        );
+    }
+    let pieces: Vec<[u16; 4]> = (0..5)
+        .map(|n| [0, 1, 2, 3].map(|slot| 4 * n + slot))
+        .collect();
+    mesh_accepted("five pieces", &of_type_o(&places, &pieces).bytes());
+    for vertex in 0..20 {
+        for record in (0..5).filter(|record| vertex / 4 != *record) {
+            for (one, other) in CODES {
+                let [a, b] = [one, other].map(|slot| places[4 * record + slot]);
+                let mut places = places.clone();
+                places[vertex] = [0, 1, 2].map(|i| (a[i] + b[i]) / 2);
+                let stored = of_type_o(&places, &pieces);
+                assert_eq!(vertices_in_pieces(&stored), [(vertex as u16, record)]);
+                mesh_refused("one of each", &stored.bytes(), 23);
+            }
+        }
+    }
 }
 
 #[test]

@@ -1,4 +1,5 @@
-//! Refusals 11 to 20: for each clause inputs that earn it, and inputs just short of it that don't.
+//! Refusals 11 to 20: for each clause inputs that earn it, and inputs just short of it that don't. Before
+//! them come the mesh's own, 23 among them.
 
 mod common;
 use common::*;
@@ -9,6 +10,66 @@ fn poked(selection: &[u8], at: usize, new: &[u8]) -> Vec<u8> {
     let mut selection = selection.to_vec();
     selection[at..at + new.len()].copy_from_slice(new);
     selection
+}
+
+/// 23 is the mesh's own: it comes before 11 to 20, whatever is cut.
+#[test]
+fn refusal_23() {
+    let hanging = on_an_edge_of_k([0; 3]);
+    let last = Stored {
+        round: 65_535,
+        ..hanging.clone()
+    };
+    for mut stored in [hanging, last] {
+        for cut in [None, Some(0), Some(1)] {
+            if let Some(n) = cut {
+                cut_one(&mut stored, n, Way::Right);
+            }
+            let mesh = stored.bytes();
+            for (name, selection) in [
+                ("an empty selection", choose(&mesh, &[])),
+                ("one piece", choose(&mesh, &[1])),
+                ("all leaves", choose(&mesh, &stored.leaves())),
+                ("not rising (15)", choose(&mesh, &[1, 0])),
+                ("another job (13)", selection(8, stored.round, &[0])),
+                ("another round (14)", selection(7, 9, &[0])),
+                ("another version (12)", poked(&choose(&mesh, &[0]), 3, &[2])),
+                ("no bytes (11)", vec![]),
+            ] {
+                refine_refused(name, &mesh, &selection, 23);
+            }
+        }
+    }
+    // One step off the edge it is another matter.
+    for off in [[-32, 0, 0], [0, 32, 0], [-32, 32, 0], [0, 0, 32]] {
+        let mesh = on_an_edge_of_k(off).bytes();
+        mesh_accepted("one step off", &mesh);
+        let result = refined(&mesh, &[0]);
+        // The made vertex is in the middle of 0-3, where the other would hang.
+        assert_eq!(decode(&result).vertices[8].place, [32; 3]);
+        mesh_accepted("refined", &refined(&result, &[1, 2]));
+    }
+}
+
+/// What refine makes is not judged by places: two pieces that overlap, cut where their edges cross.
+#[test]
+fn not_23_made_vertices() {
+    // The pieces whose edges cross in the middles of a cube's sides; 0-3 and 1-2 are cut first.
+    let cube: Vec<[i16; 3]> = cube_coordinates(64)
+        .chunks(3)
+        .map(|p| [p[0], p[1], p[2]])
+        .collect();
+    let mut mesh = of_type_o(&cube, &[[0, 3, 5, 6], [1, 2, 4, 7]]).bytes();
+    for round in 0..6 {
+        let leaves = decode(&mesh).leaves();
+        mesh = refined(&mesh, &leaves);
+        mesh_accepted("a star, refined", &mesh);
+        assert_eq!(check(&mesh).sixfold, 4 * 64u64.pow(3), "{round}");
+    }
+    // Made vertices of the one stand where made vertices of the other do.
+    let stored = decode(&mesh);
+    let places: std::collections::BTreeSet<_> = stored.vertices.iter().map(|v| v.place).collect();
+    assert!(places.len() < stored.vertices.len());
 }
 
 #[test]
@@ -330,10 +391,14 @@ fn ladder(rungs: usize) -> Stored {
 #[test]
 fn refusal_19_records() {
     for records in [3_068, 3_069, 3_070, 3_071, 3_072] {
-        let (coordinates, corners) = crowded(800, records, 11);
+        // The last piece has nothing in common with the others.
+        let (mut coordinates, mut corners) = crowded(796, records - 1, 11);
+        coordinates.extend(K_COORDINATES.map(|x| x - 640));
+        corners.extend([796, 797, 798, 799]);
         let mesh = build_vec(2, &coordinates, &corners).unwrap();
+        let lonely = records as u16 - 1;
         let mut tried = [0, 0];
-        for leaf in (0..records as u16).step_by(300) {
+        for leaf in (0..lonely).step_by(300).chain([lonely]) {
             let closed = naive_refine(&mesh, &[leaf], Way::Right);
             assert!(closed.vertices.len() <= 1_024);
             if closed.records.len() <= 3_072 {
@@ -344,7 +409,7 @@ fn refusal_19_records() {
                 tried[1] += 1;
             }
         }
-        // A lonely piece makes two records more.
+        // The lonely piece makes two records more.
         let fits = records + 2 <= 3_072;
         assert!(tried[if fits { 0 } else { 1 }] > 0, "{records}: {tried:?}");
         if !fits {

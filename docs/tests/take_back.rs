@@ -261,6 +261,34 @@ fn refusals_11_to_15() {
     assert!(take_back_vec(&mesh, &good).is_ok());
 }
 
+/// 23 is the mesh's own, as in refine: before 11 to 15, 30, 18 and 20, whatever is cut and named.
+#[test]
+fn refusal_23() {
+    let mut stored = on_an_edge_of_k([0; 3]);
+    take_back_refused("nothing cut", &stored.bytes(), &choose(&k(), &[]), 23);
+    cut_one(&mut stored, 0, Way::Right);
+    cut_one(&mut stored, 1, Way::Right);
+    for round in [0, 65_535] {
+        let mesh = of_round(&stored.bytes(), round);
+        for (name, request) in [
+            ("an empty request", choose(&mesh, &[])),
+            ("both cuts", choose(&mesh, &[0, 1])),
+            ("a leaf (30)", choose(&mesh, &[2])),
+            ("not rising (15)", choose(&mesh, &[1, 0])),
+            ("another round (14)", selection(7, 9, &[0])),
+            ("another job (13)", selection(8, round, &[0])),
+            ("no bytes (11)", vec![]),
+        ] {
+            take_back_refused(name, &mesh, &request, 23);
+        }
+    }
+    // One step off the edge the same cuts go.
+    let base = on_an_edge_of_k([0, 32, 0]).bytes();
+    let mesh = refined(&base, &[0, 1]);
+    assert_eq!(taken_back(&mesh, &[0, 1]), of_round(&base, 2));
+    stands(&taken_back(&mesh, &[1]), &mesh);
+}
+
 #[test]
 fn refusal_30() {
     let mesh = k2();

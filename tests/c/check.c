@@ -81,6 +81,13 @@ static const int16_t places[12] = {0, 0, 0, 64, 0, 0, 64, 64, 0, 64, 64, 64};
 static const uint16_t piece[4] = {0, 1, 2, 3};
 static const uint16_t left_handed[4] = {0, 1, 3, 2};
 
+/* K and another piece, whose vertex 4 stands beside K, or on K's edge of vertices 0 and 1. */
+static const int16_t beside[18] = {0,  0,  0,  64, 0,   0, 64, 64, 0,
+                                   64, 64, 64, 32, -32, 0, 64, 0,  -64};
+static const int16_t hanging[18] = {0,  0,  0,  64, 0, 0, 64, 64, 0,
+                                    64, 64, 64, 32, 0, 0, 64, 0,  -64};
+static const uint16_t pieces[8] = {0, 1, 2, 3, 4, 1, 2, 5};
+
 static int failures = 0;
 
 static void expect(const char *name, struct tmb_report given, struct tmb_report wanted)
@@ -140,6 +147,16 @@ static void expect_built(const char *name, const uint16_t *corners, size_t room,
     expect_written(name, room, given, number, wanted);
 }
 
+/* Builds the first of the two pieces, or both, with the vertex that hangs into so many bytes. */
+static void expect_not_built(const char *name, size_t corner_count, size_t room, uint32_t number)
+{
+    uint32_t given;
+
+    fill();
+    given = tmb_build(7, hanging, 18, pieces, corner_count, buffer + 1, room);
+    expect_written(name, room, given, number, NULL);
+}
+
 /* Refines a mesh by the selection into so many bytes. */
 static void expect_refined(const char *name, const uint8_t *mesh, size_t mesh_length,
                            size_t selection_length, size_t room, uint32_t number,
@@ -193,7 +210,9 @@ static void expect_listed(const char *name, const uint8_t *mesh, size_t mesh_len
 int main(void)
 {
     struct tmb_report accepted = {0, 1, 0, 262144, 0, 0};
+    struct tmb_report both = {0, 2, 0, 393216, 0, 0};
     struct tmb_report refused = {0, 0, 0, 0, 0, 0};
+    uint8_t hangs[114], unused[97];
     uint8_t changed[sizeof k], turned[sizeof k], coarse[sizeof cut] = {0}, leaf[sizeof named];
     size_t i;
 
@@ -222,6 +241,30 @@ int main(void)
     expect("K left-handed with its flag set", tmb_check(turned, sizeof turned), refused);
     turned[73] = 0;
 
+    /* A vertex beside K, moved to K's edge. */
+    if (tmb_build(7, beside, 18, pieces, 8, hangs, sizeof hangs) != 0) {
+        puts("K and a piece beside it: not built");
+        failures++;
+    }
+    expect("K and a piece beside it", tmb_check(hangs, sizeof hangs), both);
+    hangs[62] = 0;
+    hangs[63] = 0;
+    refused.number = 23;
+    expect("a vertex on K's edge", tmb_check(hangs, sizeof hangs), refused);
+
+    /* K cut without children: that comes after. */
+    hangs[95] = 0;
+    hangs[96] = 0;
+    expect("a vertex on K's edge and a cut", tmb_check(hangs, sizeof hangs), refused);
+
+    /* K alone: the vertex is in no record, and that comes before. */
+    for (i = 0; i < sizeof unused; i++)
+        unused[i] = hangs[i];
+    unused[15] = 1;
+    unused[17] = 1;
+    refused.number = 8;
+    expect("a vertex on K's edge and in no record", tmb_check(unused, sizeof unused), refused);
+
     /* Under 20 bytes. */
     refused.number = 1;
     expect("nothing", tmb_check(k, 0), refused);
@@ -234,6 +277,9 @@ int main(void)
     expect_built("K built into none", piece, 0, 20, NULL);
     expect_built("K left-handed built into 77 bytes", left_handed, 77, 0, k);
     expect_built("K left-handed built into 76 bytes", left_handed, 76, 20, NULL);
+    expect_not_built("a vertex on K's edge built into 114 bytes", 8, 114, 23);
+    expect_not_built("a vertex on K's edge built into none", 8, 0, 23);
+    expect_not_built("a vertex on K's edge and in no piece built", 4, 114, 8);
 
     expect_refined("K refined into 121 bytes", k, sizeof k, sizeof selected, 121, 0, cut);
     expect_refined("K refined into 120 bytes", k, sizeof k, sizeof selected, 120, 20, NULL);
@@ -242,6 +288,8 @@ int main(void)
     expect_refined("no selection", k, sizeof k, 0, 121, 11, NULL);
     expect_refined("no mesh", k, 0, sizeof selected, 121, 1, NULL);
     expect_refined("K left-handed refined", turned, sizeof turned, sizeof selected, 121, 22, NULL);
+    expect_refined("a vertex on K's edge refined", hangs, sizeof hangs, sizeof selected, 121, 23,
+                   NULL);
 
     /* K of round 2, and zeros past it; record 1, a leaf, in the request's only number. */
     for (i = 0; i < sizeof k; i++)
@@ -263,6 +311,8 @@ int main(void)
     expect_taken_back("no request", cut, sizeof cut, named, 0, 121, 11, NULL);
     expect_taken_back("no mesh", cut, 0, named, sizeof named, 121, 1, NULL);
     expect_taken_back("K left-handed", turned, sizeof turned, named, sizeof named, 121, 22, NULL);
+    expect_taken_back("a vertex on K's edge", hangs, sizeof hangs, named, sizeof named, 121, 23,
+                      NULL);
 
     expect_listed("K cut listed into its length", cut, sizeof cut, strlen(listed), 0, listed);
     expect_listed("K cut listed into a byte less", cut, sizeof cut, strlen(listed) - 1, 20, "");
@@ -272,6 +322,8 @@ int main(void)
     expect_listed("K refused into a byte less", changed, sizeof changed, 9, 6, "");
     expect_listed("K left-handed into its line", turned, sizeof turned, 11, 22, "refused 22\n");
     expect_listed("K left-handed into a byte less", turned, sizeof turned, 10, 22, "");
+    expect_listed("a vertex on K's edge into its line", hangs, sizeof hangs, 11, 23, "refused 23\n");
+    expect_listed("a vertex on K's edge into a byte less", hangs, sizeof hangs, 10, 23, "");
     expect_listed("no mesh into more", k, 0, 121, 1, "refused 1\n");
 
     if (failures == 0)

@@ -1,5 +1,6 @@
 //! Damage to a stored mesh: most of it breaks one rule, some of it leaves an accepted mesh.
 
+use crate::inside::{all_four, hanging_piece, place_in, Place, HANGING};
 use crate::meshes::{cut_alone, face_set, halfway, in_slots, pair, signed, turned, Pair};
 use crate::random::Random;
 use second::mesh::{Mesh, Record, Vertex, NO_NUMBER};
@@ -10,7 +11,7 @@ use second::{MOST_RECORDS, MOST_VERTICES};
 type Damage = fn(&mut Mesh, &mut Random) -> bool;
 
 /// Each kind of damage by name.
-pub const KINDS: [(&str, Damage); 44] = [
+pub const KINDS: [(&str, Damage); 46] = [
     ("vertex moved by one", vertex_moved_by_one),
     ("base vertex moved on the grid", base_vertex_moved),
     ("coordinate at a bound", coordinate_at_a_bound),
@@ -49,6 +50,8 @@ pub const KINDS: [(&str, Damage); 44] = [
     ("piece set on a face", piece_set_on_a_face),
     ("pieces set on a face", pieces_set_on_a_face),
     ("unused base vertex", unused_base_vertex),
+    ("base vertex moved into a piece", base_vertex_moved_into),
+    ("a corner in another piece", corner_in_another),
     ("base record taken out", base_record_taken_out),
     ("children exchanged", children_exchanged),
     ("children of two exchanged", children_of_two_exchanged),
@@ -379,7 +382,7 @@ fn right_handed(mesh: &Mesh, record: Record, random: &mut Random) -> Option<Reco
 }
 
 /// Puts a record at the end of the base records; those beyond move up by one.
-fn insert_base_record(mesh: &mut Mesh, record: Record) -> bool {
+pub fn insert_base_record(mesh: &mut Mesh, record: Record) -> bool {
     if mesh.records.len() >= MOST_RECORDS {
         return false;
     }
@@ -394,8 +397,14 @@ fn insert_base_record(mesh: &mut Mesh, record: Record) -> bool {
     true
 }
 
-/// Puts a vertex at the end of the base vertices; made ones move up by one.
+/// Puts a vertex at the end of the base vertices, somewhere on the grid.
 fn insert_base_vertex(mesh: &mut Mesh, random: &mut Random) -> Option<u16> {
+    let place = [0; 3].map(|_: i16| 32 * (random.below(2_047) as i16 - 1_023));
+    insert_base_vertex_at(mesh, place)
+}
+
+/// Puts a vertex at the end of the base vertices; made ones move up by one.
+pub fn insert_base_vertex_at(mesh: &mut Mesh, place: Place) -> Option<u16> {
     if mesh.vertices.len() >= MOST_VERTICES {
         return None;
     }
@@ -411,7 +420,6 @@ fn insert_base_vertex(mesh: &mut Mesh, random: &mut Random) -> Option<u16> {
     for record in &mut mesh.records {
         record.corners.iter_mut().for_each(move_up);
     }
-    let place = [0; 3].map(|_: i16| 32 * (random.below(2_047) as i16 - 1_023));
     let parents = [NO_NUMBER; 2];
     mesh.vertices
         .insert(usize::from(at), Vertex { place, parents });
@@ -421,6 +429,65 @@ fn insert_base_vertex(mesh: &mut Mesh, random: &mut Random) -> Option<u16> {
 
 fn unused_base_vertex(mesh: &mut Mesh, random: &mut Random) -> bool {
     insert_base_vertex(mesh, random).is_some()
+}
+
+/// The places of a base record's corners; nothing if one of them is no vertex.
+fn places_of(mesh: &Mesh, number: usize) -> Option<[Place; 4]> {
+    let corners = mesh.records[number].corners;
+    all_four(corners.map(|corner| mesh.place(corner)))
+}
+
+/// The vertex hangs, on an edge, in a face or inside, if the pieces that it is a corner of are still what they
+/// were.
+fn base_vertex_moved_into(mesh: &mut Mesh, random: &mut Random) -> bool {
+    let number = any_base_record(mesh, random);
+    let vertex = any_base_vertex(mesh, random);
+    let corner = mesh.records[number].corners.contains(&(vertex as u16));
+    let corners = places_of(mesh, number).filter(|_| !corner);
+    let place = corners.and_then(|corners| {
+        let mut kinds = HANGING;
+        random.shuffle(&mut kinds);
+        kinds
+            .into_iter()
+            .find_map(|kind| place_in(corners, kind, random))
+    });
+    if let Some(place) = place {
+        mesh.vertices[vertex].place = place;
+    }
+    place.is_some()
+}
+
+fn corner_in_another(mesh: &mut Mesh, random: &mut Random) -> bool {
+    let number = any_base_record(mesh, random);
+    hang_a_piece(mesh, number, random)
+}
+
+/// Four base vertices more and a base record of them, one of its corners in the piece of that one; false if there
+/// is no room.
+pub fn hang_a_piece(mesh: &mut Mesh, number: usize, random: &mut Random) -> bool {
+    if mesh.vertices.len() + 4 > MOST_VERTICES || mesh.records.len() >= MOST_RECORDS {
+        return false;
+    }
+    let base = &mesh.vertices[..mesh.base_vertices];
+    let free = |place: Place| !base.iter().any(|vertex| vertex.place == place);
+    let places = places_of(mesh, number).and_then(|corners| hanging_piece(corners, free, random));
+    let corners = places.map(|places| places.map(|place| insert_base_vertex_at(mesh, place)));
+    let Some(corners) = corners.and_then(all_four) else {
+        return false;
+    };
+    let mut piece = Record {
+        corners,
+        edge: 0,
+        marks: [3, 1, 0, 0],
+        flag: 0,
+        generation: 0,
+        first_child: NO_NUMBER,
+    };
+    // It shares no face: any marks will do.
+    if mesh.is_left_handed(&piece) {
+        piece.corners.swap(0, 1);
+    }
+    insert_base_record(mesh, piece)
 }
 
 /// A base record that is a leaf; those beyond move down by one. Its vertices may be left in none.

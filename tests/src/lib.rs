@@ -1,8 +1,10 @@
 //! The proved services through their C functions, and meshes to compare them on with the second
 //! program: built, refined, renumbered and damaged at random. The picture of their times.
 
+pub mod answers;
 pub mod buffers;
 pub mod damage;
+pub mod inside;
 pub mod meshes;
 pub mod named;
 pub mod plot;

@@ -1,6 +1,8 @@
 //! Accepted meshes: plain ones, three ways to mark them, and refinement at random.
 
+use crate::inside::within;
 use crate::random::Random;
+use crate::renumber::renumbered;
 use second::mesh::{Mesh, Record, Vertex, NO_NUMBER};
 use second::piece::{children, code, ends, on_face, slots, EDGES};
 use second::{build_vec, refine_vec, selection, MOST_RECORDS, MOST_VERTICES};
@@ -76,6 +78,29 @@ pub fn turned(record: &Record, [one, other]: [usize; 2]) -> Option<Record> {
     in_slots(record, order)
 }
 
+/// The four slots in every order, and whether an odd number of exchanges leads there.
+pub fn orders() -> Vec<([usize; 4], bool)> {
+    let order = |number: usize| [0, 2, 4, 6].map(|shift| number >> shift & 3);
+    let all = (0..256).map(order);
+    let pairs = |order: &[usize; 4], is_so: fn(usize, usize) -> bool| {
+        let pairs = EDGES.iter().filter(|[i, j]| is_so(order[*i], order[*j]));
+        pairs.count()
+    };
+    let different = all.filter(|order| pairs(order, |i, j| i != j) == 6);
+    let orders: Vec<_> = different
+        .map(|order| (order, pairs(&order, |i, j| i > j) % 2 == 1))
+        .collect();
+    assert_eq!(orders.len(), 24);
+    orders
+}
+
+/// The same mesh with a base record in the other hand, its marks along.
+pub fn with_turned(mesh: &Mesh, number: usize, slots: [usize; 2]) -> Mesh {
+    let mut other = mesh.clone();
+    other.records[number] = turned(&mesh.records[number], slots).expect("a piece");
+    other
+}
+
 /// A plain mesh: places, and pieces by their corners.
 #[derive(Clone, Default)]
 pub struct Plain {
@@ -90,6 +115,13 @@ impl Plain {
     /// The signed determinant of a piece.
     pub fn signed(&self, piece: [u16; 4]) -> i64 {
         signed(piece.map(|corner| self.places[usize::from(corner)]))
+    }
+
+    /// A piece more that shares nothing.
+    pub fn add_apart(&mut self, corners: [[i16; 3]; 4]) {
+        let first = self.places.len() as u16;
+        self.places.extend(corners);
+        self.pieces.push([0, 1, 2, 3].map(|slot| first + slot));
     }
 
     /// The same pieces, all of them right-handed: of a left-handed one the two corners in these slots are
@@ -214,7 +246,20 @@ impl Plain {
         build_vec(0, &places.concat(), &[0, 1, 2, 3]).is_ok()
     }
 
-    /// Whether rules 5 and 7 let the piece be added.
+    /// Whether a vertex lies in a piece that it is no corner of.
+    fn hangs(&self, vertex: u16, piece: [u16; 4]) -> bool {
+        let place = |number: u16| self.places[usize::from(number)];
+        !piece.contains(&vertex) && within(piece.map(place), place(vertex)).is_some()
+    }
+
+    /// Each vertex that lies in a piece that it is no corner of, with the piece.
+    pub fn hanging(&self) -> impl Iterator<Item = (usize, usize)> + '_ {
+        let pairs = (0..self.pieces.len())
+            .flat_map(|piece| (0..self.places.len()).map(move |vertex| (vertex, piece)));
+        pairs.filter(|&(vertex, piece)| self.hangs(vertex as u16, self.pieces[piece]))
+    }
+
+    /// Whether rules 5, 7 and 23 let the piece be added.
     fn may_join(&self, piece: [u16; 4]) -> bool {
         let faces = || {
             self.pieces
@@ -228,7 +273,13 @@ impl Plain {
                 < 2
         };
         let same = |&old: &[u16; 4]| BTreeSet::from(old) == BTreeSet::from(piece);
-        self.solid(piece) && (0..4).all(open) && !self.pieces.iter().any(same)
+        let on_old = |&old: &[u16; 4]| piece.iter().any(|&corner| self.hangs(corner, old));
+        let mut vertices = 0..self.places.len() as u16;
+        self.solid(piece)
+            && (0..4).all(open)
+            && !self.pieces.iter().any(same)
+            && !self.pieces.iter().any(on_old)
+            && !vertices.any(|vertex| self.hangs(vertex, piece))
     }
 
     /// Another numbering of the vertices, another order of the pieces, other slots.
@@ -261,11 +312,18 @@ pub fn one_piece(random: &mut Random) -> Plain {
     joined(random, 1)
 }
 
-/// Pieces joined at random on faces, edges, single vertices or nowhere; they may overlap.
+/// Pieces joined at random on faces, edges, single vertices or nowhere; they may overlap, but no vertex lies in
+/// a piece that it is no corner of.
 pub fn joined(random: &mut Random, pieces: usize) -> Plain {
-    let span = [3, 8, 200, 1_023][random.below(4)];
+    let mut span = [3, 8, 200, 1_023][random.below(4)];
     let mut plain = Plain::default();
+    let mut tries = 0;
     while plain.pieces.len() < pieces {
+        // Where pieces stand close there may be no room left for another.
+        tries += 1;
+        if tries % 100 == 0 {
+            span = (2 * span).min(1_023);
+        }
         let known = plain.places.len();
         let mut piece = Vec::new();
         if let Some(mut old) = random.pick(&plain.pieces) {
@@ -412,10 +470,8 @@ pub fn separate(pieces: usize) -> Plain {
     let mut plain = Plain::default();
     for number in 0..pieces {
         let at = [number % 16, number / 16, 0].map(|steps| 256 * steps as i16);
-        let first = plain.places.len() as u16;
         let corner = |place: [i16; 3]| [0, 1, 2].map(|axis| at[axis] + 2 * place[axis]);
-        plain.places.extend(K.map(corner));
-        plain.pieces.push([0, 1, 2, 3].map(|slot| first + slot));
+        plain.add_apart(K.map(corner));
     }
     plain
 }
@@ -460,22 +516,41 @@ fn first_pieces(mut plain: Plain, pieces: usize) -> Plain {
     plain
 }
 
-/// Two meshes of round 0 as one: all of the other's numbers come after those of the first. The other one
-/// is moved along x until no place is used twice; they share no vertex.
+/// Two meshes of round 0 as one: all of the other's numbers come after those of the first. The other one is
+/// moved until its box meets the box of no piece of the first; they share no vertex, and none of one lies in a
+/// piece of the other.
 pub fn beside(one: &Mesh, other: &Mesh) -> Mesh {
     for mesh in [one, other] {
         assert_eq!(mesh.records.len(), mesh.base_records, "nothing is cut");
     }
-    let used: BTreeSet<[i16; 3]> = one.vertices.iter().map(|vertex| vertex.place).collect();
-    let moved = |[x, y, z]: [i16; 3], steps: i16| [x + 32 * steps, y, z];
-    let free = |&steps: &i16| {
-        let mut places = other.vertices.iter().map(|vertex| vertex.place);
-        places.all(|place| !used.contains(&moved(place, steps)))
+    let places = |mesh: &Mesh| mesh.vertices.iter().map(|vertex| vertex.place).collect();
+    let (used, moving): (Vec<_>, Vec<_>) = (places(one), places(other));
+    let corners = |record: &Record| record.corners.map(|corner| used[usize::from(corner)]);
+    let boxes: Vec<_> = one.records.iter().map(|r| reach(&corners(r))).collect();
+    let whole = reach(&moving);
+    // Along x first, then towards a corner of the grid.
+    let ways = [
+        [1, 0, 0],
+        [-1, 0, 0],
+        [1, 1, 1],
+        [1, -1, 1],
+        [-1, 1, -1],
+        [-1, -1, -1],
+    ];
+    let moves = ways
+        .into_iter()
+        .flat_map(|way| (20..800).map(move |steps: i16| way.map(|part: i16| 32 * part * steps)));
+    let meets = |by: &[i16; 3], taken: &[[i16; 2]; 3]| {
+        (0..3).all(|axis| {
+            let [low, high] = whole[axis].map(|end| end + by[axis]);
+            low <= taken[axis][1] && taken[axis][0] <= high
+        })
     };
-    let steps = (20..500).find(free).expect("a free place");
+    let mut free = moves.filter(|by| !boxes.iter().any(|taken| meets(by, taken)));
+    let by = free.next().expect("a free place");
     let mut both = one.clone();
     let vertex = |vertex: &Vertex| Vertex {
-        place: moved(vertex.place, steps),
+        place: [0, 1, 2].map(|axis| vertex.place[axis] + by[axis]),
         ..*vertex
     };
     both.vertices.extend(other.vertices.iter().map(vertex));
@@ -487,6 +562,14 @@ pub fn beside(one: &Mesh, other: &Mesh) -> Mesh {
     both.records.extend(other.records.iter().map(record));
     (both.base_vertices, both.base_records) = (both.vertices.len(), both.records.len());
     both
+}
+
+/// The box of some places: along each axis from the least to the greatest.
+fn reach(places: &[[i16; 3]]) -> [[i16; 2]; 3] {
+    [0, 1, 2].map(|axis| {
+        let along = || places.iter().map(|place| place[axis]);
+        [along().min(), along().max()].map(|end| end.expect("a place"))
+    })
 }
 
 /// 1,024 vertices and 3,072 base records: a block of 2 by 16 by 19 cubes and one piece apart, some
@@ -510,9 +593,7 @@ pub fn full_base(random: &mut Random) -> Plain {
         superfluous -= 1;
         false
     });
-    let first = plain.places.len() as u16;
-    plain.places.extend(K.map(|[x, y, z]| [x - 640, y, z]));
-    plain.pieces.push([0, 1, 2, 3].map(|slot| first + slot));
+    plain.add_apart(K.map(|[x, y, z]| [x - 640, y, z]));
     assert_eq!(
         (plain.places.len(), plain.pieces.len()),
         (MOST_VERTICES, MOST_RECORDS)
@@ -551,6 +632,24 @@ pub fn random_base(random: &mut Random, most: usize) -> Mesh {
         thinned(cubes(sides, side), random, percent).mixed(random)
     };
     plain.marked_anyhow(random)
+}
+
+/// A random mesh, refined for some rounds, numbered anyhow.
+pub fn any_mesh(random: &mut Random, rounds: usize) -> Mesh {
+    let mut mesh = random_base(random, 6);
+    for _ in 0..random.below(rounds) {
+        match refined_anyhow(&mesh, random) {
+            Some(finer) if finer.records.len() < 200 => mesh = finer,
+            _ => break,
+        }
+    }
+    if random.one_in(3) {
+        mesh = renumbered(&mesh, random);
+    }
+    if random.one_in(10) {
+        mesh.round = 65_535;
+    }
+    mesh
 }
 
 /// The leaves that may be named in a selection.

@@ -2,6 +2,7 @@
 //! and every byte of the output buffer. COMPARED_SEED in the environment gives another seed.
 
 use compared::buffers::both;
+use compared::inside::hanging_piece;
 use compared::meshes::{cubes, full_base, joined, separate, signed, thinned, Plain, K};
 use compared::random::Random;
 use compared::{tmb_build, tmb_check};
@@ -14,7 +15,7 @@ use std::sync::atomic::{AtomicUsize, Ordering};
 const FEWEST: u64 = 20_000;
 const FEWEST_OF_EACH: u64 = 1_000;
 /// In the order in which build tries them, then acceptance.
-const NUMBERS: [u32; 8] = [21, 3, 4, 5, 7, 8, 20, 0];
+const NUMBERS: [u32; 9] = [21, 3, 4, 5, 7, 8, 23, 20, 0];
 
 /// What build takes, but for the output buffer.
 #[derive(Clone, Debug, PartialEq)]
@@ -95,9 +96,9 @@ struct Tally {
     random: u64,
     calls: u64,
     /// Calls by the number given.
-    numbers: [u64; 23],
+    numbers: [u64; 24],
     /// Inputs by the number given where the output buffer is long enough.
-    by_input: [u64; 23],
+    by_input: [u64; 24],
     /// Calls by output buffer: 0, one less than the result, the result, full-size, longer.
     rooms: [u64; 5],
     /// Accepted inputs of 1,024 vertices, and of 3,072 pieces.
@@ -219,13 +220,14 @@ type Damage = fn(&mut Input, &mut Random) -> bool;
 
 /// Each kind of damage by name, with the number that it gets alone. Lengths come last: they leave no
 /// whole vertices and pieces.
-const KINDS: [(&str, Damage, u32); 13] = [
+const KINDS: [(&str, Damage, u32); 14] = [
     ("off the grid", off_the_grid, 4),
     ("out of range", out_of_range, 4),
     ("two at one place", two_at_one_place, 4),
     ("face in three", face_in_three, 7),
     ("same four corners", same_four_corners, 7),
     ("unused vertex", unused_vertex, 8),
+    ("a corner in another piece", corner_in_another, 23),
     ("flat piece", flat_piece, 5),
     ("equal corners", equal_corners, 5),
     ("corner not in the base", corner_not_in_base, 5),
@@ -312,6 +314,24 @@ fn unused_vertex(input: &mut Input, random: &mut Random) -> bool {
     true
 }
 
+/// A piece more that shares nothing, one of its corners in another: on an edge, in a face or inside.
+fn corner_in_another(input: &mut Input, random: &mut Random) -> bool {
+    let corners = input.any_piece(random);
+    let Some(places) = corners.and_then(|corners| input.places_of(corners)) else {
+        return false;
+    };
+    let Some(places) = hanging_piece(places, |place| input.is_free(place), random) else {
+        return false;
+    };
+    let first = input.vertices() as u16;
+    input.coordinates.extend(places.as_flattened());
+    let mut piece = [0, 1, 2, 3].map(|slot| first + slot);
+    random.shuffle(&mut piece);
+    let at = 4 * random.below(input.pieces() + 1);
+    input.corners.splice(at..at, piece);
+    true
+}
+
 /// A piece more: three corners of another and the fourth of their parallelogram.
 fn flat_piece(input: &mut Input, random: &mut Random) -> bool {
     let Some(mut corners) = input.any_piece(random) else {
@@ -392,10 +412,11 @@ const LISTED: [Part; 8] = [
     largest_pieces,
     short_lists,
 ];
-const RANDOM: [(Part, usize); 6] = [
+const RANDOM: [(Part, usize); 7] = [
     (blocks, 150),
     (fans, 300),
     (damaged_once, 600),
+    (corners_in_others, 500),
     (damaged_often, 4_000),
     (small_sets, 7_000),
     (any_lists, 1_500),
@@ -594,11 +615,21 @@ fn damaged_once(tally: &mut Tally, random: &mut Random) {
     }
 }
 
+/// A corner of one piece in another, and of more pieces in others.
+fn corners_in_others(tally: &mut Tally, random: &mut Random) {
+    let mut input = Input::new(&accepted(random), random);
+    for _ in 0..2 {
+        if corner_in_another(&mut input, random) {
+            tally.given("a corner in another piece", &input, 23, random);
+        }
+    }
+}
+
 /// Several kinds together: the first rule broken, in the order that build tries, names the refusal.
 fn damaged_often(tally: &mut Tally, random: &mut Random) {
     let mut input = Input::new(&accepted(random), random);
     let mut names = String::from("damaged");
-    let most = [9, 9, 9, KINDS.len()][random.below(4)];
+    let most = [10, 10, 10, KINDS.len()][random.below(4)];
     for (name, damage, _) in &KINDS[..most] {
         if random.one_in(5) && damage(&mut input, random) {
             names = format!("{names}, {name}");

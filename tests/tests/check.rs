@@ -16,7 +16,7 @@ use std::io::Write;
 use std::sync::atomic::{AtomicUsize, Ordering};
 
 /// The numbers that check can give, in the order in which their rules are tried; 0 last.
-const NUMBERS: [usize; 12] = [1, 2, 3, 4, 5, 22, 6, 7, 8, 9, 10, 0];
+const NUMBERS: [usize; 13] = [1, 2, 3, 4, 5, 22, 6, 7, 8, 23, 9, 10, 0];
 
 /// The fewest meshes, and the fewest answers of each number.
 const FEWEST: u64 = 20_000;
@@ -26,7 +26,7 @@ const FEWEST_OF_EACH: u64 = 1_000;
 #[derive(Default)]
 struct Tally {
     meshes: u64,
-    numbers: [u64; 23],
+    numbers: [u64; 24],
     renumbered: u64,
     /// Base records of accepted meshes, by type P, A, O, M.
     types: [u64; 4],
@@ -581,7 +581,7 @@ fn the_proved_check_and_the_second_agree() {
         let times = std::mem::take(&mut others[number]);
         assert!(times >= FEWEST_OF_EACH, "number {number}: {times} times");
     }
-    assert_eq!(others, [0; 23], "no other number");
+    assert_eq!(others, [0; 24], "no other number");
     assert!(tally.renumbered >= 1_000);
     assert!(tally.types.iter().all(|&times| times >= 1_000));
     assert!(tally.deepest >= 10);

@@ -4,87 +4,29 @@
 //! value of every record of an accepted mesh is looked at, down to generation 15. COMPARED_SEED in the
 //! environment gives another seed.
 
-use compared::buffers::both;
-use compared::damage::{damaged, KINDS};
+use compared::answers::{any_selections, compared, tell, Answers, Given, Numbers, Part, Tallied};
+use compared::damage::{damaged, hang_a_piece, KINDS};
+use compared::inside::hanging_piece;
 use compared::meshes::{
-    cubes, cut_alone, cut_records, filled, full_base, in_slots, joined, open_leaves, random_base,
-    refined, refined_anyhow, separate, signed, single_pieces, thinned, turned, Plain, K,
+    any_mesh, cubes, cut_alone, cut_records, filled, full_base, in_slots, joined, orders, refined,
+    separate, signed, single_pieces, thinned, turned, with_turned, Plain, K,
 };
-use compared::named::{k, read, seed, sum, Compared, Input, REFINE, TAKE_BACK};
+use compared::named::{k, read, seed, sum};
 use compared::random::Random;
-use compared::renumber::renumbered;
-use compared::{tmb_build, tmb_check, tmb_list};
+use compared::tmb_check;
 use second::mesh::{Mesh, Record, Vertex, NO_NUMBER};
 use second::piece::{ends, EDGES};
-use second::{build, check, list, list_into, selection, Listed, LARGEST_MESH, MOST_RECORDS};
-use std::io::Write;
-use std::sync::atomic::{AtomicUsize, Ordering};
+use second::{check, selection, LARGEST_MESH, MOST_RECORDS};
 
-/// The numbers that each service can give, in the order in which their rules are tried; 0 last.
-const OF_BUILD: [usize; 8] = [21, 3, 4, 5, 7, 8, 20, 0];
-const OF_CHECK: [usize; 12] = [1, 2, 3, 4, 5, 22, 6, 7, 8, 9, 10, 0];
-const OF_LIST: [usize; 13] = [1, 2, 3, 4, 5, 22, 6, 7, 8, 9, 10, 20, 0];
-const OF_REFINE: [usize; 22] = [
-    1, 2, 3, 4, 5, 22, 6, 7, 8, 9, 10, 11, 12, 13, 14, 15, 16, 17, 18, 19, 20, 0,
-];
-const OF_TAKE_BACK: [usize; 20] = [
-    1, 2, 3, 4, 5, 22, 6, 7, 8, 9, 10, 11, 12, 13, 14, 15, 30, 18, 20, 0,
-];
-
-/// The fewest inputs, the fewest of them that are random, the fewest given 22, and the fewest of each number
-/// of each service.
+/// The fewest inputs, the fewest of them that are random, and the fewest given 22.
 const FEWEST: u64 = 25_000;
 const FEWEST_RANDOM: u64 = 24_000;
 const FEWEST_LEFT_HANDED: u64 = 5_000;
-const FEWEST_OF_EACH: u64 = 25;
-
-/// A buffer of so many bytes holds any listing.
-const LARGEST_LISTING: usize = 393_344;
-
-/// How often each number was given.
-type Numbers = [u64; 31];
-
-/// What build takes, but for the output buffer.
-#[derive(Clone, Debug, PartialEq)]
-struct Given {
-    job: u32,
-    coordinates: Vec<i16>,
-    corners: Vec<u16>,
-}
-
-impl Given {
-    fn new(plain: &Plain, random: &mut Random) -> Given {
-        Given {
-            job: random.number() as u32,
-            coordinates: plain.places.concat(),
-            corners: plain.pieces.concat(),
-        }
-    }
-
-    /// The length of the result, if there is one.
-    fn length(&self) -> usize {
-        20 + 10 * (self.coordinates.len() / 3) + 17 * (self.corners.len() / 4)
-    }
-}
 
 /// What was compared.
 #[derive(Default)]
 struct Tally {
-    /// Inputs, those of them that are random, and calls; an input is a plain mesh, or a stored mesh with a
-    /// selection and a request.
-    inputs: u64,
-    random: u64,
-    calls: u64,
-    /// By number: of build, check and list; 20 where an output buffer is too short.
-    build: Numbers,
-    check: Numbers,
-    list: Numbers,
-    refine: Compared,
-    take_back: Compared,
-    /// Calls of build, and of list, by output buffer: 0, one less than the result, the result, full-size,
-    /// longer.
-    built_rooms: [u64; 5],
-    listed_rooms: [u64; 5],
+    answers: Answers,
     /// Accepted pieces that were given right-handed and left-handed.
     hands: [u64; 2],
     /// Accepted plain meshes with pieces of both hands.
@@ -104,67 +46,18 @@ struct Tally {
     halves: u64,
 }
 
-/// An input on which the two differ, in a file.
-fn differs(name: &str, what: &str, input: &[u8]) -> ! {
-    let file = format!("{}/differs.handed", env!("CARGO_TARGET_TMPDIR"));
-    std::fs::write(&file, input).expect("the input is written");
-    panic!("{name}, {what}; the input is in {file}");
-}
-
-fn zeros(bytes: &[u8]) -> bool {
-    bytes.iter().all(|&byte| byte == 0)
-}
-
 impl Tally {
-    /// A plain mesh with output buffers of 0, one less than the result, the result, full-size and longer; the
-    /// last two not always. Gives the mesh that is built, or the number.
+    /// A plain mesh. Gives the mesh that is built, or the number.
     fn build(&mut self, name: &str, given: &Given, random: &mut Random) -> Result<Mesh, u32> {
-        let length = given.length();
-        let longer = LARGEST_MESH + 1 + random.below(2_000);
-        let rooms = [0, length - 1, length, LARGEST_MESH, longer];
-        let chosen = [true, true, true, random.one_in(6), random.one_in(6)];
-        let (mut short, mut long, mut result) = (Vec::new(), Vec::new(), Vec::new());
-        for kind in (0..5).filter(|&kind| chosen[kind]) {
-            let copy = given.clone();
-            let called = both(
-                rooms[kind],
-                random,
-                |out| tmb_build(copy.job, &copy.coordinates, &copy.corners, out),
-                |out| build(given.job, &given.coordinates, &given.corners, out),
-            );
-            assert!(copy == *given, "{name}: inputs are only read");
-            let (number, out) = called.unwrap_or_else(|different| {
-                differs(name, &different, format!("{given:?}\n").as_bytes())
-            });
-            self.calls += 1;
-            self.built_rooms[kind] += 1;
-            let written = if number == 0 { length } else { 0 };
-            assert!(zeros(&out[written..]), "{name}: zero past the result");
-            match rooms[kind] < length {
-                true => short.push(number),
-                false => long.push(number),
-            }
-            if kind == 2 {
-                result = out;
-            }
-        }
-        // 20 comes last; else every buffer gets one number.
-        let answer = long[0];
-        let in_short = if answer == 0 { 20 } else { answer };
-        assert!(long.iter().all(|&number| number == answer), "{name}");
-        assert!(short.iter().all(|&number| number == in_short), "{name}");
-        self.inputs += 1;
-        self.build[answer as usize] += 1;
-        self.build[20] += u64::from(answer == 0);
+        let built = self.answers.build(name, given, random);
         let left = left_handed_pieces(given);
-        self.with_left_handed[answer as usize] += u64::from(left > 0);
-        if answer != 0 {
-            return Err(answer);
+        let number = built.as_ref().err().copied().unwrap_or(0);
+        self.with_left_handed[number as usize] += u64::from(left > 0);
+        if let Ok(mesh) = &built {
+            self.mixed += u64::from(left > 0 && left < mesh.records.len());
+            self.judge(name, given, mesh);
         }
-        let mesh = read(&result);
-        self.mixed += u64::from(left > 0 && left < mesh.records.len());
-        self.judge(name, given, &mesh);
-        Ok(mesh)
+        built
     }
 
     /// "Build takes a left-handed piece by exchanging its last two corners before marking": each piece in its
@@ -176,7 +69,7 @@ impl Tally {
         assert_eq!(mesh.records.len(), given.corners.len() / 4, "{name}");
         for (record, corners) in mesh.records.iter().zip(given.corners.chunks_exact(4)) {
             let [a, b, c, d] = [0, 1, 2, 3].map(|slot| corners[slot]);
-            let places = [a, b, c, d].map(|corner| place(given, corner).expect("a place"));
+            let places = [a, b, c, d].map(|corner| given.place(corner).expect("a place"));
             let left = signed(places) < 0;
             let wanted = if left { [a, b, d, c] } else { [a, b, c, d] };
             assert_eq!(record.corners, wanted, "{name}");
@@ -216,83 +109,16 @@ impl Tally {
         request: &[u8],
         random: &mut Random,
     ) -> u32 {
-        let copy = mesh.to_vec();
-        let report = tmb_check(&copy);
-        assert_eq!(copy, mesh, "{name}: inputs are only read");
-        if report != check(mesh) {
-            let what = format!("check: proved {report:?}, second {:?}", check(mesh));
-            differs(name, &what, mesh);
+        let answered = self.answers.stored(name, mesh, selection, request, random);
+        for result in answered.results.into_iter().flatten() {
+            self.look(name, &read(&result));
         }
-        let number = report.number as u32;
-        if number != 0 {
-            let figures = [report.leaves, report.deepest, report.sixfold];
-            assert_eq!(figures, [0; 3], "{name}");
-        }
-        if number != 10 {
-            assert_eq!((report.record, report.edge), (0, 0), "{name}");
-        }
-        self.inputs += 1;
-        self.calls += 1;
-        self.check[number as usize] += 1;
-        self.listed(name, mesh, number, random);
-
-        let named = [selection, request].map(|selection| Input {
-            mesh: mesh.to_vec(),
-            selection: selection.to_vec(),
-        });
-        let refined = self.refine.compare(&REFINE, name, &named[0], random);
-        let taken_back = self.take_back.compare(&TAKE_BACK, name, &named[1], random);
-        for result in [refined, taken_back] {
-            match result {
-                // "The mesh's own" come first.
-                _ if number != 0 => assert_eq!(result, Err(number), "{name}"),
-                Ok(bytes) => self.look(name, &read(&bytes)),
-                Err(_) => {}
-            }
-        }
-        match number {
+        match answered.number {
             0 => self.look(name, &read(mesh)),
             22 => self.count_22(&read(mesh)),
             _ => {}
         }
-        number
-    }
-
-    /// The listing with output buffers of 0, one less than the text, the text, full-size and longer; the last
-    /// two not always.
-    fn listed(&mut self, name: &str, mesh: &[u8], number: u32, random: &mut Random) {
-        let length = list(mesh).len();
-        let number = match mesh.len() > LARGEST_MESH {
-            true => 1,
-            false => u64::from(number),
-        };
-        let longer = LARGEST_LISTING + 1 + random.below(2_000);
-        let rooms = [0, length - 1, length, LARGEST_LISTING, longer];
-        let chosen = [true, true, true, random.one_in(25), random.one_in(25)];
-        for kind in (0..5).filter(|&kind| chosen[kind]) {
-            let copy = mesh.to_vec();
-            let called = both(
-                rooms[kind],
-                random,
-                |out| tmb_list(&copy, out),
-                |out| list_into(mesh, out),
-            );
-            assert_eq!(copy, mesh, "{name}: inputs are only read");
-            let called = called.unwrap_or_else(|different| differs(name, &different, mesh));
-            let (listed, out) = called;
-            let wanted = match (rooms[kind] < length, number) {
-                (true, 0) => (20, 0),
-                (true, number) => (number, 0),
-                (false, number) => (number, length as u64),
-            };
-            let Listed { number, length } = listed;
-            assert_eq!((number, length), wanted, "{name}");
-            assert!(zeros(&out[length as usize..]), "{name}: zero past the text");
-            self.calls += 1;
-            self.listed_rooms[kind] += 1;
-        }
-        self.list[number as usize] += 1;
-        self.list[20] += u64::from(number == 0);
+        answered.number
     }
 
     /// Where the left-handed base record stands, and what it hides.
@@ -329,23 +155,20 @@ impl Tally {
         let given = self.stored(name, &mesh.bytes(), &selection, &request, random);
         assert_eq!(given, number, "{name}");
     }
+}
+
+impl Tallied for Tally {
+    fn answers(&mut self) -> &mut Answers {
+        &mut self.answers
+    }
 
     fn add(&mut self, other: &Tally) {
-        self.inputs += other.inputs;
-        self.random += other.random;
-        self.calls += other.calls;
+        self.answers.add(&other.answers);
         self.mixed += other.mixed;
         self.cut += other.cut;
         self.halves += other.halves;
-        self.refine.add(&other.refine);
-        self.take_back.add(&other.take_back);
         for (mine, theirs) in [
-            (&mut self.build[..], &other.build[..]),
-            (&mut self.check, &other.check),
-            (&mut self.list, &other.list),
-            (&mut self.built_rooms, &other.built_rooms),
-            (&mut self.listed_rooms, &other.listed_rooms),
-            (&mut self.hands, &other.hands),
+            (&mut self.hands[..], &other.hands[..]),
             (&mut self.with_left_handed, &other.with_left_handed),
             (&mut self.places, &other.places),
             (&mut self.instead, &other.instead),
@@ -357,55 +180,18 @@ impl Tally {
     }
 }
 
-fn place(given: &Given, vertex: u16) -> Option<[i16; 3]> {
-    let mut places = given.coordinates.chunks_exact(3);
-    places.nth(vertex.into())?.try_into().ok()
-}
-
 /// How many of the pieces have four places and a negative value.
 fn left_handed_pieces(given: &Given) -> usize {
     let left = |corners: &&[u16]| {
-        let places: Option<Vec<_>> = corners.iter().map(|&c| place(given, c)).collect();
+        let places: Option<Vec<_>> = corners.iter().map(|&c| given.place(c)).collect();
         places.is_some_and(|p| signed([p[0], p[1], p[2], p[3]]) < 0)
     };
     given.corners.chunks_exact(4).filter(left).count()
 }
 
-/// A selection and a request for the mesh as far as it can be read: most of them good where the mesh is, some
-/// wrong in one way.
-fn any_selections(mesh: &Mesh, random: &mut Random) -> [Vec<u8>; 2] {
-    let records = mesh.records.len() as u16;
-    [open_leaves(mesh), cut_records(mesh)].map(|mut numbers| {
-        random.shuffle(&mut numbers);
-        numbers.truncate(random.below(4));
-        let (mut job, mut round) = (mesh.job, mesh.round);
-        let wrong = random.below(12);
-        match wrong {
-            0 => job ^= 1 << random.below(32),
-            1 => round ^= 1 << random.below(16),
-            2 => numbers.push(records + random.below(3) as u16),
-            // Any record: it may be a cut one in a selection, or a leaf in a request.
-            3 | 6 => numbers.push(random.below(usize::from(records)) as u16),
-            _ => {}
-        }
-        numbers.sort_unstable();
-        numbers.dedup();
-        let mut bytes = selection(job, round, &numbers);
-        match wrong {
-            4 => bytes.truncate(random.below(bytes.len())),
-            5 => bytes[random.below(5)] ^= 1 << random.below(8),
-            _ => {}
-        }
-        bytes
-    })
-}
-
-/// One part of the comparison.
-type Part = fn(&mut Tally, &mut Random);
-
 /// The parts that go through a list of inputs, and each part of random inputs with the times it is done, each
 /// time with numbers of its own.
-const LISTED: [Part; 8] = [
+const LISTED: [Part<Tally>; 8] = [
     full_tables,
     full_vertices,
     three_thousand_pieces,
@@ -415,9 +201,10 @@ const LISTED: [Part; 8] = [
     before_and_after,
     beyond_the_base,
 ];
-const RANDOM: [(Part, usize); 8] = [
+const RANDOM: [(Part<Tally>, usize); 9] = [
     (plain_meshes, 1_400),
     (wrong_plain_meshes, 1_400),
+    (corners_in_others, 200),
     (signs_damaged, 420),
     (flat_and_left_handed, 420),
     (left_handed_and_more, 420),
@@ -425,29 +212,6 @@ const RANDOM: [(Part, usize); 8] = [
     (any_damage, 400),
     (bytes_replaced, 200),
 ];
-
-/// The four slots in every order, and whether an odd number of exchanges leads there.
-fn orders() -> Vec<([usize; 4], bool)> {
-    let order = |number: usize| [0, 2, 4, 6].map(|shift| number >> shift & 3);
-    let all = (0..256).map(order);
-    let pairs = |order: &[usize; 4], is_so: fn(usize, usize) -> bool| {
-        let pairs = EDGES.iter().filter(|[i, j]| is_so(order[*i], order[*j]));
-        pairs.count()
-    };
-    let different = all.filter(|order| pairs(order, |i, j| i != j) == 6);
-    let orders: Vec<_> = different
-        .map(|order| (order, pairs(&order, |i, j| i > j) % 2 == 1))
-        .collect();
-    assert_eq!(orders.len(), 24);
-    orders
-}
-
-/// The same mesh with a base record in the other hand, its marks along.
-fn with_turned(mesh: &Mesh, number: usize, slots: [usize; 2]) -> Mesh {
-    let mut other = mesh.clone();
-    other.records[number] = turned(&mesh.records[number], slots).expect("a piece");
-    other
-}
 
 /// The same mesh with two corners of a record exchanged, and nothing else.
 fn with_exchanged(mesh: &Mesh, number: usize, [one, other]: [usize; 2]) -> Mesh {
@@ -865,6 +629,30 @@ fn wrong_plain_meshes(tally: &mut Tally, random: &mut Random) {
             }
         }
     };
+    in_any_hands(tally, given, number, random);
+}
+
+/// A piece more with a corner in another: 23, whatever the hands are.
+fn corners_in_others(tally: &mut Tally, random: &mut Random) {
+    let plain = any_plain(random);
+    let piece = plain.pieces[random.below(plain.pieces.len())];
+    let corners = piece.map(|corner| plain.places[usize::from(corner)]);
+    let free = |place| !plain.places.contains(&place);
+    let Some(places) = hanging_piece(corners, free, random) else {
+        return;
+    };
+    let mut given = Given::new(&plain, random);
+    let first = plain.places.len() as u16;
+    given.coordinates.extend(places.as_flattened());
+    let at = 4 * random.below(plain.pieces.len() + 1);
+    given
+        .corners
+        .splice(at..at, [0, 1, 2, 3].map(|slot| first + slot));
+    in_any_hands(tally, given, 23, random);
+}
+
+/// Build must give that number, four times with some of the pieces in the other hand.
+fn in_any_hands(tally: &mut Tally, mut given: Given, number: u32, random: &mut Random) {
     for _ in 0..4 {
         assert_eq!(tally.build("wrong", &given, random), Err(number));
         for piece in given.corners.chunks_exact_mut(4) {
@@ -874,24 +662,6 @@ fn wrong_plain_meshes(tally: &mut Tally, random: &mut Random) {
             }
         }
     }
-}
-
-/// A random mesh, refined for some rounds, numbered anyhow.
-fn any_mesh(random: &mut Random, rounds: usize) -> Mesh {
-    let mut mesh = random_base(random, 6);
-    for _ in 0..random.below(rounds) {
-        match refined_anyhow(&mesh, random) {
-            Some(finer) if finer.records.len() < 200 => mesh = finer,
-            _ => break,
-        }
-    }
-    if random.one_in(3) {
-        mesh = renumbered(&mesh, random);
-    }
-    if random.one_in(10) {
-        mesh.round = 65_535;
-    }
-    mesh
 }
 
 /// The sign of one base record damaged, the first, the last or one between, or of all: 22.
@@ -1020,6 +790,11 @@ fn left_handed_and_more(tally: &mut Tally, random: &mut Random) {
         let there = places.filter(|v| v.place == [-32_736, 32_736, -32_736]);
         let wanted = if there.count() > 0 { 4 } else { 22 };
         tally.given("22 and 8", &other, wanted, random);
+        // 23: a corner of another piece in this one or another.
+        let mut other = left.clone();
+        if hang_a_piece(&mut other, any, random) {
+            tally.given("22 and 23", &other, 22, random);
+        }
         // 9: a first child where there is none, or none where there is one.
         let mut other = left.clone();
         let last = mesh.records.len() as u16 - 1;
@@ -1130,107 +905,36 @@ fn bytes_replaced(tally: &mut Tally, random: &mut Random) {
 #[test]
 fn the_proved_services_and_the_second_agree_on_either_hand() {
     let seed = seed();
-    let random_parts = RANDOM
-        .into_iter()
-        .flat_map(|(part, times)| vec![part; times]);
-    let tasks: Vec<Part> = LISTED.into_iter().chain(random_parts).collect();
-    let next = AtomicUsize::new(0);
-    let work = || {
-        let mut tally = Tally::default();
-        loop {
-            let number = next.fetch_add(1, Ordering::Relaxed);
-            let Some(part) = tasks.get(number) else {
-                return tally;
-            };
-            // The same numbers whichever thread takes the task.
-            let mut random = Random::new(seed ^ (number as u64 + 1) << 32);
-            let before = tally.inputs;
-            part(&mut tally, &mut random);
-            if number >= LISTED.len() {
-                tally.random += tally.inputs - before;
-            }
-        }
-    };
-    let mut tally = Tally::default();
-    std::thread::scope(|scope| {
-        let threads = [scope.spawn(work), scope.spawn(work)];
-        for thread in threads {
-            match thread.join() {
-                Ok(part) => tally.add(&part),
-                Err(panic) => std::panic::resume_unwind(panic),
-            }
-        }
-    });
+    let tally: Tally = compared(seed, &LISTED, &RANDOM);
+    let hidden = [0, 6, 7, 8, 23, 9, 10].map(|number| tally.instead[number]);
+    let mut lines = tally.answers.lines(seed);
+    lines.extend([
+        format!(
+            "pieces built, given right-handed and left-handed {:?}; both in {} meshes",
+            tally.hands, tally.mixed
+        ),
+        format!(
+            "22 at the first base record, the last, another {:?}; in {} of them something is cut; were they \
+             right-handed, 0, 6, 7, 8, 23, 9, 10 in {hidden:?}",
+            tally.places, tally.cut
+        ),
+        format!(
+            "5 with a left-handed base record before and after it {:?}",
+            tally.given_5
+        ),
+        format!(
+            "{} children are half of their parents; records looked at by generation {:?}",
+            tally.halves, tally.looked
+        ),
+    ]);
+    tell("hands", &lines);
 
-    // Not by println, which a passing test keeps to itself.
-    let mut out = std::io::stdout().lock();
-    let mut line = |text: String| writeln!(out, "hands compared: {text}").expect("a line");
-    let calls = tally.calls + tally.refine.calls + tally.take_back.calls;
-    line(format!(
-        "seed {seed} (COMPARED_SEED), {} inputs, {} of them random, {calls} calls",
-        tally.inputs, tally.random
-    ));
-    let services = [
-        ("build", &OF_BUILD[..], tally.build),
-        ("check", &OF_CHECK, tally.check),
-        ("list", &OF_LIST, tally.list),
-        ("refine", &OF_REFINE, tally.refine.numbers),
-        ("take-back", &OF_TAKE_BACK, tally.take_back.numbers),
-    ];
-    for (name, of_service, numbers) in &services {
-        let times = |number: &usize| format!("{number}: {}", numbers[*number]);
-        let times: Vec<String> = of_service.iter().map(times).collect();
-        line(format!("{name}: {}", times.join(", ")));
-    }
-    line(format!(
-        "buffers of 0, one less, the result, full-size, longer: build {:?}, list {:?}, refine {:?}, take-back {:?}",
-        tally.built_rooms, tally.listed_rooms, tally.refine.rooms, tally.take_back.rooms
-    ));
-    line(format!(
-        "pieces built, given right-handed and left-handed {:?}; both in {} meshes",
-        tally.hands, tally.mixed
-    ));
-    let hidden = [0, 6, 7, 8, 9, 10].map(|number| tally.instead[number]);
-    line(format!(
-        "22 at the first base record, the last, another {:?}; in {} of them something is cut; were they \
-         right-handed, 0, 6, 7, 8, 9, 10 in {hidden:?}",
-        tally.places, tally.cut
-    ));
-    line(format!(
-        "5 with a left-handed base record before and after it {:?}",
-        tally.given_5
-    ));
-    line(format!(
-        "{} children are half of their parents; records looked at by generation {:?}",
-        tally.halves, tally.looked
-    ));
-
-    assert!(tally.inputs >= FEWEST);
-    assert!(tally.random >= FEWEST_RANDOM);
-    assert!(tally.check[22] >= FEWEST_LEFT_HANDED);
-    for (name, of_service, mut numbers) in services {
-        for &number in of_service {
-            let times = std::mem::take(&mut numbers[number]);
-            assert!(
-                times >= FEWEST_OF_EACH,
-                "{name}: number {number}: {times} times"
-            );
-        }
-        assert_eq!(numbers, [0; 31], "{name}: no other number");
-    }
-    let rooms = [
-        tally.built_rooms,
-        tally.listed_rooms,
-        tally.refine.rooms,
-        tally.take_back.rooms,
-    ];
-    for rooms in rooms {
-        assert!(rooms.iter().all(|&times| times >= 500), "{rooms:?}");
-    }
+    tally.answers.suffice(FEWEST, FEWEST_RANDOM);
+    assert!(tally.answers.check[22] >= FEWEST_LEFT_HANDED);
     assert!(tally.hands.iter().all(|&times| times >= 5_000));
     assert!(tally.mixed >= 1_000);
     // Build gives each of its numbers but 3 and 21 to left-handed pieces too; with too few places none is.
-    for number in [0, 4, 5, 7, 8] {
+    for number in [0, 4, 5, 7, 8, 23] {
         assert!(tally.with_left_handed[number] >= 100, "build: {number}");
     }
     assert!(tally.places.iter().all(|&times| times >= 500));

@@ -61,7 +61,7 @@ job 7 round 1 vertices 5 records 3 leaves 2 deepest 1 sixfold 262144
 ";
 
 /// The stored inputs by name, each with the number that it gets.
-const STORED: [(&str, u64); 14] = [
+const STORED: [(&str, u64); 15] = [
     ("worked", 0),
     ("cube", 0),
     ("empty", 1),
@@ -76,6 +76,7 @@ const STORED: [(&str, u64); 14] = [
     ("children-exchanged", 9),
     ("hanging-edge", 10),
     ("left-handed", 22),
+    ("hanging-vertex", 23),
 ];
 
 /// The listing program: LIST_PROGRAM in the environment, else the one that the gate builds.
@@ -269,10 +270,10 @@ struct Tally {
     inputs: u64,
     /// Inputs by the number that the listing gives, 0 where it lists, and by 20 where an output buffer is
     /// not long enough.
-    numbers: [u64; 23],
+    numbers: [u64; 24],
     /// Calls of the function by output buffer: 0, one less than the text, the text, full-size, longer.
     rooms: [u64; 5],
-    /// Calls given 1 to 10 or 22 with an output buffer shorter than the line: 20 comes last.
+    /// Calls given 1 to 10, 22 or 23 with an output buffer shorter than the line: 20 comes last.
     before_20: u64,
     /// Inputs longer than the largest mesh, and those of them that check alone gives another number.
     longer: [u64; 2],
@@ -300,7 +301,7 @@ impl Tally {
             random,
             junk,
             inputs: 0,
-            numbers: [0; 23],
+            numbers: [0; 24],
             rooms: [0; 5],
             before_20: 0,
             longer: [0; 2],
@@ -693,12 +694,13 @@ fn around_the_largest(tally: &mut Tally, mesh: &Mesh, random: &mut Random) {
 }
 
 /// The largest mesh with volumes near the greatest. At four corners of the grid's cube, no two of them on one
-/// edge of it, stand 256 vertices each; a piece has one of each, and no two pieces share a face.
+/// edge of it, stand 256 vertices each, in a plane that cuts the corner off, so that none lies in a piece of
+/// another; a piece has one of each, and no two pieces share a face.
 fn greatest_volumes(tally: &mut Tally, _: &mut Random) {
     let mut plain = Plain::default();
+    let steps = |x| (0..=22 - x).map(move |y| [x, y, 22 - x - y]);
     for corner in [[-1, -1, -1], [-1, 1, 1], [1, -1, 1], [1, 1, -1]] {
-        for number in 0..256 {
-            let steps = [number % 8, number / 8 % 8, number / 64];
+        for steps in (0..=22).flat_map(steps).take(256) {
             let place = [0, 1, 2].map(|axis| corner[axis] * (32_736 - 32 * steps[axis]));
             plain.places.push(place);
         }
@@ -845,8 +847,9 @@ fn each_damage(tally: &mut Tally, random: &mut Random) {
         mesh = refined_anyhow(&mesh, random).unwrap_or(mesh);
     }
     for (name, kind) in KINDS {
-        // Few kinds break rule 8, and mostly an earlier one too.
-        let times = if name == "unused base vertex" { 4 } else { 1 };
+        // Few kinds break rules 8 and 23, and mostly an earlier one too.
+        let few = ["unused base vertex", "a corner in another piece"];
+        let times = if few.contains(&name) { 4 } else { 1 };
         for _ in 0..times {
             let mut other = mesh.clone();
             if kind(&mut other, random) {
@@ -974,7 +977,7 @@ fn compared(name: &str, lister: Lister) -> Tally {
 
     assert!(tally.inputs >= FEWEST[lister as usize]);
     assert!(tally.numbers[0] >= FEWEST_LISTED[lister as usize]);
-    for number in (0..=10).chain([22]) {
+    for number in (0..=10).chain([22, 23]) {
         let times = tally.numbers[number];
         assert!(
             times >= FEWEST_OF_EACH[lister as usize],

@@ -1,7 +1,7 @@
 //! The proved refine, through `tmb_refine`, compared with the second program's on many inputs: number
 //! and every byte of the output buffer. COMPARED_SEED in the environment gives another seed.
 
-use compared::damage::damaged;
+use compared::damage::{damaged, hang_a_piece};
 use compared::meshes::{
     beside, block, chosen_anyhow, cubes, cut_alone, deepened, filled, joined, ladder, open_leaves,
     random_base, scattered, separate, single_pieces, LADDER,
@@ -19,8 +19,8 @@ use std::io::Write;
 use std::sync::atomic::{AtomicUsize, Ordering};
 
 /// The numbers that refine can give, in the order in which their rules are tried; 0 last.
-const NUMBERS: [usize; 22] = [
-    1, 2, 3, 4, 5, 22, 6, 7, 8, 9, 10, 11, 12, 13, 14, 15, 16, 17, 18, 19, 20, 0,
+const NUMBERS: [usize; 23] = [
+    1, 2, 3, 4, 5, 22, 6, 7, 8, 23, 9, 10, 11, 12, 13, 14, 15, 16, 17, 18, 19, 20, 0,
 ];
 
 /// The fewest inputs, the fewest of them that are random, the fewest that are accepted, and the fewest of
@@ -455,6 +455,18 @@ fn refused_meshes(tally: &mut Tally, random: &mut Random) {
             10,
             random,
         );
+    }
+    // A corner of another piece in one of the cube's six.
+    for number in 0..6 {
+        let mut hung = built(&cubes([1, 1, 1], 64), 3);
+        assert!(hang_a_piece(&mut hung, number, random));
+        for input in [
+            Input::new(&hung, &[number as u16]),
+            Input::of(&hung, 4, 0, &[]),
+            Input::new(&hung, &[7]),
+        ] {
+            tally.given("a vertex hangs", &input, 23, random);
+        }
     }
 }
 

@@ -1,10 +1,11 @@
-//! docs/samples: the plate and the pipe are what the program `samples` writes, closed solids of hexahedra, and
-//! the proved services take them.
+//! docs/samples: the proved services take them all, and no vertex hangs. The plate and the pipe are what the
+//! program `samples` writes, closed solids of hexahedra.
 
+use compared::inside::hanging;
 use compared::meshes::face_set;
 use compared::{tmb_build, tmb_check, tmb_refine};
 use second::mesh::Mesh;
-use second::{build_vec, refine_vec, selection, LARGEST_MESH};
+use second::{build_vec, check, refine_vec, selection, LARGEST_MESH};
 use std::collections::{BTreeMap, BTreeSet};
 use std::fs;
 use std::path::{Path, PathBuf};
@@ -115,6 +116,23 @@ impl Sample {
     fn volume(&self) -> u64 {
         let volumes = self.hexahedra();
         volumes.iter().map(|one| self.sixfold(one) as u64).sum()
+    }
+}
+
+/// Both programs build each sample that is shipped and accept what is built; the third way finds no vertex in a
+/// piece that it is no corner of.
+#[test]
+fn no_vertex_hangs() {
+    let names = ["cube.txt", "k.txt", "pipe.txt", "plate.txt"];
+    let files = fs::read_dir(shipped("")).unwrap();
+    let files: BTreeSet<_> = files.map(|file| file.unwrap().file_name()).collect();
+    assert_eq!(files, names.map(Into::into).into());
+    for name in names {
+        let built = read(name).built();
+        let report = tmb_check(&built);
+        assert_eq!((report.number, report), (0, check(&built)), "{name}");
+        let mesh = Mesh::read(&built).unwrap();
+        assert_eq!(hanging(&mesh).next(), None, "{name}");
     }
 }
 

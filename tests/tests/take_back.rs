@@ -1,7 +1,7 @@
 //! The proved take-back, through `tmb_take_back`, compared with the second program's on many inputs:
 //! number and every byte of the output buffer. COMPARED_SEED in the environment gives another seed.
 
-use compared::damage::damaged;
+use compared::damage::{damaged, hang_a_piece};
 use compared::meshes::{
     chosen_anyhow, cubes, cut_alone, cut_records, deepened, filled, joined, ladder, open_leaves,
     random_base, refined, ring, round_an_edge, separate, single_pieces, LADDER, RING,
@@ -21,8 +21,8 @@ use std::io::Write;
 use std::sync::atomic::{AtomicUsize, Ordering};
 
 /// The numbers that take-back can give, in the order in which their rules are tried; 0 last.
-const NUMBERS: [usize; 20] = [
-    1, 2, 3, 4, 5, 22, 6, 7, 8, 9, 10, 11, 12, 13, 14, 15, 30, 18, 20, 0,
+const NUMBERS: [usize; 21] = [
+    1, 2, 3, 4, 5, 22, 6, 7, 8, 23, 9, 10, 11, 12, 13, 14, 15, 30, 18, 20, 0,
 ];
 
 /// The fewest inputs, the fewest of them that are random, the fewest that are accepted, and the fewest of
@@ -761,6 +761,15 @@ fn refused_meshes(tally: &mut Tally, random: &mut Random) {
         open.round = 65_535;
         let last = Input::new(&open, &[]);
         tally.given("not closed, the last round", &last, 10, random);
+    }
+    // A corner of another piece in one of the cube's six, all of them cut.
+    for number in 0..6 {
+        let mut hung = finer(&built(&cubes([1, 1, 1], 64), 3), &[0]);
+        assert!(hang_a_piece(&mut hung, number, random));
+        for numbers in [&[number as u16][..], &[], &[7], &[99]] {
+            let input = Input::new(&hung, numbers);
+            tally.given("a vertex hangs", &input, 23, random);
+        }
     }
 }
 

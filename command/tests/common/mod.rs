@@ -222,6 +222,12 @@ pub fn corners_exchanged(mesh: &[u8], record: usize, slots: [usize; 2]) -> Vec<u
     bytes
 }
 
+/// The bytes of a mesh with a vertex moved to another place and nothing else.
+pub fn moved(mesh: &[u8], vertex: usize, place: [i16; 3]) -> Vec<u8> {
+    let place: Vec<u8> = place.into_iter().flat_map(i16::to_le_bytes).collect();
+    poked(mesh, 20 + 10 * vertex, &place)
+}
+
 /// The cube with one record cut and nothing closed.
 pub fn hanging() -> Vec<u8> {
     cut_first(&cube())

@@ -5,42 +5,36 @@ use mathlib.Core.List.{List}
 use Prim.Native.Nat.{ℕ, zero, suc, _/_, _≤_, _<_}
 use native.Mathlib.Nat.{le-refl}
 use native.Mathlib.Omega.{arith}
-use lib.ListN.{length, getD}
-use lib.IntN.{ℤ, pos}
-use lib.Signed.{_≤ℤ_}
+use lib.ListN.{length}
+use lib.IntN.{ℤ}
 use lib.Dec.{ltb}
 use borrow.Author.Tests.{ltb-false}
 use Rattle.laws.specs.Below.{or-left-false, or-right-false, countBelow, count-none, count-suc, greatestBelow, greatest-none, greatest-suc}
 use Rattle.laws.specs.Order.{none-broken}
 use Rattle.piece.specs.declared.Piece.{Piece}
 use Rattle.piece.specs.Shape.{shapeOf, Valid}
-use Rattle.piece.specs.Ends.{cornerAt}
-use Rattle.grid.specs.Places.{pointOf}
-use Rattle.grid_volume.specs.Volume.{signedOf}
-use Rattle.grid_volume.specs.Formal.{same-corners}
-use Rattle.grid_volume.specs.Handed.{not-negative, positive-not-negative}
-use Rattle.stored.specs.declared.Vertex.{Vertex}
 use Rattle.stored.specs.declared.Header.{Header}
 use Rattle.stored.specs.declared.Record.{Record}
-use Rattle.stored.specs.Layout.{none, storedNone, limits}
+use Rattle.stored.specs.Layout.{none, limits}
 use Rattle.stored.specs.Fitting.{MeshFits}
 use Rattle.stored.specs.Meshes.{mesh-right-length, mesh-right-mark}
-use Rattle.mesh_tables.specs.Tables.{Tables, tablesOf, baseVertices, allVertices, baseRecords, allRecords, pieceAt, isLeaf, cornerPoint, signedAt, sixfoldAt}
-use Rattle.check_refusals.specs.Refusals.{wrongLength, wrongMark, wrongCounts, badVertices, badBaseFaces, unusedVertices}
+use Rattle.mesh_tables.specs.Tables.{Tables, tablesOf, baseVertices, allVertices, baseRecords, allRecords, pieceAt, isLeaf}
+use Rattle.check_refusals.specs.Refusals.{wrongLength, wrongMark, wrongCounts, badVertices, badBaseFaces, unusedVertices, hangingVertices}
 use Rattle.check_refusals.specs.Check.{checkNumber, leaves, leafGeneration, deepest, sixfold, reportOf, checkOf}
-use Rattle.check_meaning.specs.Tests.{Fails, equal, none-passes}
-use Rattle.check_meaning.specs.Accepted.{Within, RightCounts, BasePiece, RightBaseRecords, RightBaseMarks, RightCuts, Accepted, Made, Leaf}
+use Rattle.check_meaning.specs.Tests.{equal}
+use Rattle.check_meaning.specs.Accepted.{Within, RightCounts, RightBaseRecords, RightHanded, RightBaseMarks, RightCuts, Accepted, Made, Leaf}
 use Rattle.check_meaning.specs.Heading.{rule1-holds, rule2-holds, rule3-holds}
 use Rattle.check_meaning.specs.Vertices.{rule4-holds}
-use Rattle.check_meaning.specs.Bases.{valid-marks, base-piece}
+use Rattle.check_meaning.specs.Bases.{valid-marks}
 use Rattle.check_meaning.specs.Faces.{rule7-holds, rule8-holds}
+use Rattle.check_meaning.specs.Inside.{rule23-holds}
 use Rattle.check_meaning.specs.Exactly.{accepts-exactly}
-use Rattle.build_marks.specs.Marking.{plainVertex, plainPiece, plainPoint, rightedPiece, markedPiece, plainRecord}
+use Rattle.build_marks.specs.Marking.{plainPiece, rightedPiece, markedPiece, plainRecord}
 use Rattle.build_service.specs.Build.{notWhole, plainHeader, plainMesh, plainBytes, badGivenPieces, buildRows, buildNumber}
 use Rattle.build_meaning.specs.Edges.{Different}
-use Rattle.build_meaning.specs.Righted.{sixfold-four, slotGiven, slot-small, righted-corner, righted-different, righted-sixfold, righted-positive}
 use Rattle.build_meaning.specs.Marks.{marked-valid}
-use Rattle.build_meaning.specs.Written.{Given, CountsFit, written, stored-corner, plain-fits, header-read, vertex-read, record-read}
+use Rattle.build_meaning.specs.Records.{RightGiven, given-holds, named, records-read, all-base, stored-piece, right-record, right-hand}
+use Rattle.build_meaning.specs.Written.{Given, CountsFit, written, plain-fits, header-read}
 
 -- What build has tried where it accepts, in its own order.
 pub record Passed (job : ℕ) (coordinates : List ℤ) (corners : List ℕ) (room : ℕ) : Type 0 where
@@ -50,6 +44,7 @@ pub record Passed (job : ℕ) (coordinates : List ℤ) (corners : List ℕ) (roo
   pub given : badGivenPieces coordinates corners ≡ false
   pub faces : badBaseFaces (written job coordinates corners) ≡ false
   pub uses : unusedVertices (written job coordinates corners) ≡ false
+  pub inside : hangingVertices (written job coordinates corners) ≡ false
   pub fits : length (plainBytes job coordinates corners) ≤ room
 
 module _ (job : ℕ) (coordinates : List ℤ) (corners : List ℕ) (room : ℕ) where
@@ -65,6 +60,7 @@ module _ (job : ℕ) (coordinates : List ℤ) (corners : List ℕ) (room : ℕ) 
         given = right 5;
         faces = right 7;
         uses = right 8;
+        inside = right 23;
         fits = ltb-false room (length (plainBytes job coordinates corners)) (right 20);
       }
 
@@ -76,13 +72,6 @@ module _ (job : ℕ) (coordinates : List ℤ) (corners : List ℕ) (room : ℕ) 
         vertices = let l = ltb-false (limits .vertices) (length coordinates / 3) (or-left-false _ _ both) in omega arith;
         records = let l = ltb-false (limits .records) (length corners / 4) (or-right-false (ltb (limits .vertices) (length coordinates / 3)) _ both) in omega arith;
       }
-
--- Rule 5, of the pieces as they are given.
-pub given-holds : (coordinates : List ℤ) (corners : List ℕ) →
-    Fails (badGivenPieces coordinates corners) ((n : ℕ) → n < length corners / 4 → BasePiece (length coordinates / 3) (plainVertex coordinates) (plainPiece corners n))
-unfolding badGivenPieces
-given-holds coordinates corners =
-    none-passes (length corners / 4) (λ n l. base-piece (length coordinates / 3) (plainVertex coordinates) (plainPiece corners n))
 
 -- Where the test passes at each, all are counted.
 count-all : (P : ℕ → Bool) (n : ℕ) → ((k : ℕ) → k < n → P k ≡ true) → countBelow n P ≡ n
@@ -112,91 +101,34 @@ module _ (job : ℕ) (coordinates : List ℤ) (corners : List ℕ) where
     pub build-header : written job coordinates corners .header ≡ plainHeader job coordinates corners
     build-header = header-read job coordinates corners g fit
 
-    -- So all vertices and all records are base ones.
-    all-base : (allVertices m ≡ baseVertices m) × (allRecords m ≡ baseRecords m)
-    unfolding plainHeader
-    all-base = (ap (λ (h : Header). h .vertices) build-header ∙ sym (ap (λ (h : Header). h .«base_vertices») build-header), ap (λ (h : Header). h .records) build-header ∙ sym (ap (λ (h : Header). h .«base_records») build-header))
+    -- 5 judges the pieces as they are given.
+    right-given : RightGiven coordinates corners
+    right-given = given-holds coordinates corners .0 (tried .given)
+
+    -- The mesh that build accepts fits its stored form.
+    pub build-fits : MeshFits (plainMesh job coordinates corners)
+    build-fits = plain-fits job coordinates corners g fit (named job coordinates corners g fit right-given)
+
+    -- The records that check reads are the plain ones.
+    pub build-record : (n : ℕ) → n < length corners / 4 → written job coordinates corners .recordAt n ≡ plainRecord coordinates corners n
+    build-record = records-read job coordinates corners g fit right-given
+
+    same-counts : (allVertices m ≡ baseVertices m) × (allRecords m ≡ baseRecords m)
+    same-counts = all-base job coordinates corners g fit right-given
 
     all-plain : allRecords m ≡ length corners / 4
     unfolding plainHeader
     all-plain = ap (λ (h : Header). h .records) build-header
 
-    -- 5 judges the pieces as they are given.
-    right-given : (n : ℕ) → n < length corners / 4 → BasePiece (length coordinates / 3) (plainVertex coordinates) (plainPiece corners n)
-    right-given = given-holds coordinates corners .0 (tried .given)
-
-    -- It leaves no corner of 65,535, which would be read as none.
-    named : (n : ℕ) → n < length corners / 4 → (k : ℕ) → getD (plainRecord coordinates corners n .piece .corners) k 0 < storedNone
-    named n l = stored-corner coordinates corners n (λ c. c < storedNone) (omega arith) (λ k s. omega (arith, right-given n l .in-base k s, fit .vertices))
-
-    -- The mesh that build accepts fits its stored form.
-    pub build-fits : MeshFits (plainMesh job coordinates corners)
-    build-fits = plain-fits job coordinates corners g fit named
-
-    -- The records that check reads are the plain ones.
-    pub build-record : (n : ℕ) → n < length corners / 4 → written job coordinates corners .recordAt n ≡ plainRecord coordinates corners n
-    build-record = record-read job coordinates corners g fit named
-
-    -- So are its pieces, in the base that check reads.
-    stored-piece : (n : ℕ) → n < baseRecords m → pieceAt m n ≡ markedPiece coordinates (rightedPiece coordinates (plainPiece corners n))
-    unfolding plainRecord
-    stored-piece n l = ap (λ (r : Record). r .piece) (build-record n (omega (arith, all-base .1, all-plain)))
-
-    stored-vertex : (v : ℕ) → v < length coordinates / 3 → m .vertexAt v ≡ plainVertex coordinates v
-    stored-vertex = vertex-read job coordinates corners g fit
-
-    all-listed : baseVertices m ≡ length coordinates / 3
-    unfolding plainHeader
-    all-listed = ap (λ (h : Header). h .«base_vertices») build-header
-
-    module _ (n : ℕ) (l : n < baseRecords m) where
-      abbrev given : Piece
-      given = plainPiece corners n
-
-      it : BasePiece (length coordinates / 3) (plainVertex coordinates) given
-      it = right-given n (omega (arith, all-base .1, all-plain))
-
-      stored-corner-at : (k : ℕ) → k < 4 → cornerAt (pieceAt m n) k ≡ cornerAt (rightedPiece coordinates given) k
-      unfolding markedPiece
-      stored-corner-at k s = ap (λ (p : Piece). cornerAt p k) (stored-piece n l)
-
-      corner-in-base : (k : ℕ) → k < 4 → cornerAt (rightedPiece coordinates given) k < length coordinates / 3
-      corner-in-base k s =
-          let j = slotGiven coordinates given k in
-          omega (arith, righted-corner coordinates given k s, it .in-base j (slot-small coordinates given k s))
-
-      -- Its corners stand where the lists say.
-      stored-point : (k : ℕ) → k < 4 → cornerPoint (m .vertexAt) (pieceAt m n) k ≡ plainPoint coordinates (rightedPiece coordinates given) k
-      unfolding plainVertex
-      stored-point k s =
-          ap (λ (v : ℕ). pointOf (m .vertexAt v .place)) (stored-corner-at k s)
-          ∙ ap (λ (v : Vertex). pointOf (v .place)) (stored-vertex (cornerAt (rightedPiece coordinates given) k) (corner-in-base k s))
-
-      right-record : BasePiece (baseVertices m) (m .vertexAt) (pieceAt m n)
-      unfolding sixfoldAt plainVertex markedPiece
-      right-record =
-          record {
-            different = λ j k lj lk e. righted-different coordinates given (it .different) j k lj lk (sym (stored-corner-at j lj) ∙ e ∙ stored-corner-at k lk);
-            in-base = λ k s. omega (arith, stored-corner-at k s, corner-in-base k s, all-listed);
-            volume = λ e. it .volume (sym (sixfold-four (cornerPoint (m .vertexAt) (pieceAt m n)) (plainPoint coordinates (rightedPiece coordinates given)) stored-point ∙ righted-sixfold coordinates given) ∙ e);
-            generation = ap (λ (p : Piece). p .generation) (stored-piece n l);
-            flag = ap (λ (p : Piece). p .flag) (stored-piece n l);
-          }
-
-      -- And it is right-handed.
-      right-hand : pos 0 ≤ℤ signedAt (m .vertexAt) (pieceAt m n)
-      unfolding signedAt sixfoldAt plainVertex
-      right-hand =
-          let z = signedOf (plainPoint coordinates (rightedPiece coordinates given)) in
-          subst (λ (x : ℤ). pos 0 ≤ℤ x) (sym (same-corners (cornerPoint (m .vertexAt) (pieceAt m n)) (plainPoint coordinates (rightedPiece coordinates given)) stored-point))
-          (not-negative z .0 (positive-not-negative z (righted-positive coordinates given (it .volume))))
-
     right-records : RightBaseRecords m
-    right-records = right-record
+    right-records = right-record job coordinates corners g fit right-given
+
+    right-hands : RightHanded m
+    right-hands = right-hand job coordinates corners g fit right-given
 
     -- No vertex is made, and no record is cut.
     none-made : (v : ℕ) → Made m v → ⊥
-    none-made v d = omega (arith, all-base .0)
+    none-made v d = omega (arith, same-counts .0)
 
     all-leaves : (n : ℕ) → n < allRecords m → Leaf m n
     unfolding plainRecord
@@ -212,7 +144,7 @@ module _ (job : ℕ) (coordinates : List ℤ) (corners : List ℕ) where
     unfolding markedPiece
     right-marks n l =
         let p = rightedPiece coordinates (plainPiece corners n) in
-        let same : pieceAt m n ≡ markedPiece coordinates p = stored-piece n l in
+        let same : pieceAt m n ≡ markedPiece coordinates p = stored-piece job coordinates corners g fit right-given n l in
         valid-marks (pieceAt m n)
         (subst (λ (q : Piece). Valid (shapeOf q)) (sym same) (marked-valid coordinates p (subst Different same (right-records n l .different))))
 
@@ -221,8 +153,8 @@ module _ (job : ℕ) (coordinates : List ℤ) (corners : List ℕ) where
     right-cuts =
         record {
           cuts = λ n l c. absurd (c (all-leaves n l));
-          one-parent = λ c b l. absurd (omega (arith, all-base .1));
-          generations = λ n l. let none : pieceAt m n .generation ≡ 0 = right-records n (omega (arith, all-base .1)) .generation in omega arith;
+          one-parent = λ c b l. absurd (omega (arith, same-counts .1));
+          generations = λ n l. let none : pieceAt m n .generation ≡ 0 = right-records n (omega (arith, same-counts .1)) .generation in omega arith;
           midpoints = λ v d. absurd (none-made v d);
         }
 
@@ -238,10 +170,11 @@ module _ (job : ℕ) (coordinates : List ℤ) (corners : List ℕ) where
             counts = right-counts .1;
             vertices = rule4-holds m (right-counts .1 .vertices-within) .0 (tried .vertices);
             base-records = right-records;
-            handed = right-hand;
+            handed = right-hands;
             base-marks = right-marks;
             faces = rule7-holds m .0 (tried .faces);
             uses = rule8-holds m .0 (tried .uses);
+            no-vertex-hangs = rule23-holds m right-records right-hands .0 (tried .inside);
             cuts = right-cuts;
           };
           none-hangs = λ n l leaf e k v d h. none-made v d;
@@ -261,7 +194,7 @@ module _ (job : ℕ) (coordinates : List ℤ) (corners : List ℕ) where
     unfolding deepest leafGeneration
     build-depth =
         greatest-zero (λ n. leafGeneration (m .recordAt n)) (allRecords m)
-        (λ n l. rw (equal (m .recordAt n .«first_child») none .1 (all-leaves n l)) (right-records n (omega (arith, all-base .1)) .generation))
+        (λ n l. rw (equal (m .recordAt n .«first_child») none .1 (all-leaves n l)) (right-records n (omega (arith, same-counts .1)) .generation))
 
     -- What check returns of it, all six figures.
     pub check-reports : checkOf (plainBytes job coordinates corners) ≡ record { number = 0; leaves = length corners / 4; deepest = 0; sixfold = sixfold (written job coordinates corners); «record» = 0; edge = 0 }

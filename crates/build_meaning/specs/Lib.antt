@@ -5,6 +5,7 @@ pub mod Righted
 pub mod Marks
 pub mod Shared
 pub mod Written
+pub mod Records
 pub mod Accepts
 pub mod Output
 pub mod Rows

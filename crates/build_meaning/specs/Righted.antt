@@ -1,7 +1,7 @@
 -- Document 02, "Three": what the exchange of a left-handed piece's last two corners changes, and what it does not.
 use mathlib.Core.Path.{_≡_, refl, sym, ap, _∙_, subst}
 use mathlib.Core.Bool.{Bool, cond}
-use mathlib.Core.Logic.{_≢_, ⊎-elim}
+use mathlib.Core.Logic.{_↔_, _≢_, ⊎-elim}
 use mathlib.Core.List.{List}
 use Prim.Native.Nat.{ℕ, zero, suc, _<_}
 use native.Mathlib.Omega.{arith}
@@ -18,6 +18,8 @@ use Rattle.grid_volume.specs.Volume.{signedOf, leftHanded, sixfoldOf}
 use Rattle.grid_volume.specs.Formal.{same-corners}
 use Rattle.grid_volume.specs.VolumeTheorems.{sixfold-exchanged}
 use Rattle.grid_volume.specs.Handed.{right-by-exchange, right-unless-left}
+use Rattle.grid_inside.specs.Weights.{WeightedMean}
+use Rattle.grid_inside.specs.Corners.{mean-four, mean-exchanged, exchanged-mean}
 use Rattle.check_meaning.specs.Accepted.{SameRecordFace}
 use Rattle.build_marks.specs.Marking.{plainPoint, lastExchanged, rightedPiece}
 use Rattle.build_meaning.specs.Edges.{Different}
@@ -130,4 +132,18 @@ module _ (coordinates : List ℤ) (p : Piece) where
       (sym (same-corners (plainPoint coordinates (lastExchanged p)) (exchanged 2 3 (plainPoint coordinates p)) (turned-point coordinates p)))
       (right-by-exchange (plainPoint coordinates p) 2 3 (omega arith) (omega arith) (λ e. omega arith) t)))
       (λ f. rw f (right-unless-left (plainPoint coordinates p) solid f))
+      (either left)
+
+  -- What lies in the closed piece is the same.
+  pub righted-closed : (v : Point) → WeightedMean (plainPoint coordinates (rightedPiece coordinates p)) v ↔ WeightedMean (plainPoint coordinates p) v
+  unfolding rightedPiece
+  righted-closed v =
+      let given = plainPoint coordinates p in
+      let turned = plainPoint coordinates (lastExchanged p) in
+      ⊎-elim
+      (λ t. rw t (
+        λ mean. exchanged-mean given v (mean-four turned (exchanged 2 3 given) (turned-point coordinates p) v mean),
+        λ mean. mean-four (exchanged 2 3 given) turned (λ k l. sym (turned-point coordinates p k l)) v (mean-exchanged given v mean),
+      ))
+      (λ f. rw f (λ mean. mean, λ mean. mean))
       (either left)

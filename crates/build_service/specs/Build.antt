@@ -12,7 +12,7 @@ use Rattle.laws.specs.Order.{Row, row, firstBroken}
 use Rattle.stored.specs.declared.Header.{Header}
 use Rattle.stored.specs.Layout.{limits, Mesh, meshBytes}
 use Rattle.mesh_tables.specs.Tables.{tablesOf}
-use Rattle.check_refusals.specs.Refusals.{wrongCounts, badVertices, badPiece, badBaseFaces, unusedVertices}
+use Rattle.check_refusals.specs.Refusals.{wrongCounts, badVertices, badPiece, badBaseFaces, unusedVertices, hangingVertices}
 use Rattle.build_marks.specs.Marking.{plainVertex, plainPiece, plainRecord}
 
 -- 21: "coordinates not three a vertex, or corners not four a piece"
@@ -48,7 +48,7 @@ unfoldable pub badGivenPieces : List ℤ → List ℕ → Bool
 badGivenPieces coordinates corners =
     anyBelow (length corners / 4) (λ n. badPiece (length coordinates / 3) (plainVertex coordinates) (plainPiece corners n))
 
--- "Build tries 21, then 3, 4, 5, 7, 8, 20": 4, 7 and 8 are check's own, of what will be written.
+-- "Build tries 21, then 3, 4, 5, 7, 8, 20", and document 02's 23 "before 20": 4, 7, 8 and 23 are check's own, of what will be written.
 unfoldable pub buildRows : ℕ → List ℤ → List ℕ → ℕ → List Row
 buildRows job coordinates corners room =
     let m = tablesOf (plainBytes job coordinates corners) in
@@ -58,6 +58,7 @@ buildRows job coordinates corners room =
     ∷ row 5 (badGivenPieces coordinates corners)
     ∷ row 7 (badBaseFaces m)
     ∷ row 8 (unusedVertices m)
+    ∷ row 23 (hangingVertices m)
     ∷ row 20 (ltb room (length (plainBytes job coordinates corners)))
     ∷ []
 

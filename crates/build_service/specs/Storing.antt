@@ -24,7 +24,7 @@ use Rattle.stored.specs.Fitting.{U32, HeaderFits}
 use Rattle.stored.specs.Entries.{vertex-wide, record-wide}
 use Rattle.check_refusals.specs.Bounded.{Bounded}
 use Rattle.mesh_tables.specs.Tables.{Tables, tablesOf}
-use Rattle.check_refusals.specs.Refusals.{wrongCounts, badVertices, badPiece, badBaseFaces, unusedVertices}
+use Rattle.check_refusals.specs.Refusals.{wrongCounts, badVertices, badPiece, badBaseFaces, unusedVertices, hangingVertices}
 use Rattle.check_refusals.specs.Bounded.{Bounded, bounded}
 use Rattle.build_marks.specs.Marking.{plainVertex, plainPiece, plainRecord}
 use Rattle.build_service.specs.Build.{notWhole, plainHeader, plainMesh, plainBytes, badGivenPieces, buildRows, buildNumber, buildBytes}
@@ -204,9 +204,9 @@ or-none false = refl
 
 -- ---- what is judged of a stored mesh
 
--- 4, 7 and 8, of the tables, and between them whether 5 is broken by the pieces as they are given.
+-- 4, 7, 8 and 23, of the tables, and between them whether 5 is broken by the pieces as they are given.
 abbrev judgedRows : Bool → Tables → List Row
-judgedRows given m = row 4 (badVertices m) ∷ row 5 given ∷ row 7 (badBaseFaces m) ∷ row 8 (unusedVertices m) ∷ []
+judgedRows given m = row 4 (badVertices m) ∷ row 5 given ∷ row 7 (badBaseFaces m) ∷ row 8 (unusedVertices m) ∷ row 23 (hangingVertices m) ∷ []
 
 unfoldable pub judgedNumber : Bool → Tables → ℕ
 judgedNumber given m = firstBroken (judgedRows given m)
@@ -228,9 +228,13 @@ module _ (given : Bool) (m : Tables) where
   unfolding judgedNumber firstBroken
   judged-8 a b c d = rw (a, b, c, d)
 
-  pub judged-0 : badVertices m ≡ false → given ≡ false → badBaseFaces m ≡ false → unusedVertices m ≡ false → 0 ≡ judgedNumber given m
+  pub judged-23 : badVertices m ≡ false → given ≡ false → badBaseFaces m ≡ false → unusedVertices m ≡ false → hangingVertices m ≡ true → 23 ≡ judgedNumber given m
   unfolding judgedNumber firstBroken
-  judged-0 a b c d = rw (a, b, c, d)
+  judged-23 a b c d e = rw (a, b, c, d, e)
+
+  pub judged-0 : badVertices m ≡ false → given ≡ false → badBaseFaces m ≡ false → unusedVertices m ≡ false → hangingVertices m ≡ false → 0 ≡ judgedNumber given m
+  unfolding judgedNumber firstBroken
+  judged-0 a b c d e = rw (a, b, c, d, e)
 
 -- And 20, of the mesh's bytes s and the room for them.
 unfoldable pub laterNumber : Bool → List ℕ → ℕ → ℕ

@@ -129,9 +129,9 @@ fn bad_given_pieces(coordinates: &[i16], corners: &[u16], vertices: u32, records
     false
 }
 
-// Check's own rules 4, 7 and 8, in its place whether 5 was found broken, and 0 where none is.
+// Check's own rules 4, 7, 8 and 23, in its place whether 5 was found broken, and 0 where none is.
 fn judged_with<'a>(
-    given: bool,
+    bad_given: bool,
     h: Header,
     l: Layout,
     base: &'a [u8],
@@ -144,12 +144,12 @@ fn judged_with<'a>(
     requires { ⌜ LentToBase h (length (now heads)) (length (now «face_heads»)) (length (now links)) (length (now uses)) ⌝ }
     requires { ⌜ Empty (now heads) ⌝ }
     requires { ⌜ Empty (now «face_heads») ⌝ }
-    ensures { λ r. ⌜ r ≡ judgedNumber given (tables h l (now (base .entry)) (now (grown .entry))) ⌝ }
+    ensures { λ r. ⌜ r ≡ judgedNumber «bad_given» (tables h l (now (base .entry)) (now (grown .entry))) ⌝ }
 {
     if check_places::bad_vertices(h, l, base, grown, heads, links) {
         return 4;
     }
-    if given {
+    if bad_given {
         return 5;
     }
     if check_faces::bad_base_faces(h, l, base, grown, face_heads, links) {
@@ -158,13 +158,16 @@ fn judged_with<'a>(
     if check_uses::unused_vertices(h, l, base, grown, uses) {
         return 8;
     }
+    if check_inside::hanging_vertices(h, l, base, grown, heads, links) {
+        return 23;
+    }
     0
 }
 
 // The working memory of these rules is made here, and lent to them.
-fn judged<'a>(given: bool, h: Header, l: Layout, base: &'a [u8], grown: &'a [u8]) -> u32
+fn judged<'a>(bad_given: bool, h: Header, l: Layout, base: &'a [u8], grown: &'a [u8]) -> u32
     requires { ⌜ Bounded h ⌝ }
-    ensures { λ r. ⌜ r ≡ judgedNumber given (tables h l (now (base .entry)) (now (grown .entry))) ⌝ }
+    ensures { λ r. ⌜ r ≡ judgedNumber «bad_given» (tables h l (now (base .entry)) (now (grown .entry))) ⌝ }
 {
     let mut heads = [0u16; chains::KEYS];
     let mut face_heads = [0u16; chains::FACE_KEYS];
@@ -172,7 +175,7 @@ fn judged<'a>(given: bool, h: Header, l: Layout, base: &'a [u8], grown: &'a [u8]
     // "one count for each of the 1,024 possible vertices": [0; 1024]
     let mut uses = [0u16; stored::VERTICES];
     judged_with(
-        given,
+        bad_given,
         h,
         l,
         base,
@@ -185,13 +188,19 @@ fn judged<'a>(given: bool, h: Header, l: Layout, base: &'a [u8], grown: &'a [u8]
 }
 
 // Judges the tables, and stores the mesh where it is accepted and there is room.
-fn finish<'a>(given: bool, h: Header, vertices: &'a [u8], records: &'a [u8], out: &mut [u8]) -> u32
+fn finish<'a>(
+    bad_given: bool,
+    h: Header,
+    vertices: &'a [u8],
+    records: &'a [u8],
+    out: &mut [u8],
+) -> u32
     requires { ⌜ Ready h (now vertices) (now records) (now out) ⌝ }
-    ensures { λ r. ⌜ r ≡ laterNumber given (assembled h (now (vertices .entry)) (now (records .entry))) (length (now (out .entry))) ⌝ }
-    ensures { λ _. ⌜ now (out .exit) ≡ laterBytes given (assembled h (now (vertices .entry)) (now (records .entry))) (length (now (out .entry))) ⌝ }
+    ensures { λ r. ⌜ r ≡ laterNumber «bad_given» (assembled h (now (vertices .entry)) (now (records .entry))) (length (now (out .entry))) ⌝ }
+    ensures { λ _. ⌜ now (out .exit) ≡ laterBytes «bad_given» (assembled h (now (vertices .entry)) (now (records .entry))) (length (now (out .entry))) ⌝ }
 {
     let l = stored::working_layout(h.vertices, h.records);
-    let found = judged(given, h, l, vertices, records);
+    let found = judged(bad_given, h, l, vertices, records);
     if found != 0 {
         return found;
     }
@@ -210,7 +219,7 @@ fn store(job: u32, coordinates: &[i16], corners: &[u16], out: &mut [u8]) -> u32
     ensures { λ _. ⌜ now (out .exit) ≡ laterBytes (badGivenPieces (now (coordinates .entry)) (now (corners .entry))) (plainBytes job (now (coordinates .entry)) (now (corners .entry))) (length (now (out .entry))) ⌝ }
 {
     let h = plain_header(job, coordinates, corners);
-    let given = bad_given_pieces(coordinates, corners, h.vertices, h.records);
+    let bad_given = bad_given_pieces(coordinates, corners, h.vertices, h.records);
     let mut vertices = [0u8; stored::VERTEX_BYTES];
     let mut records = [0u8; stored::RECORD_BYTES];
     put_vertices(
@@ -228,7 +237,7 @@ fn store(job: u32, coordinates: &[i16], corners: &[u16], out: &mut [u8]) -> u32
         coordinates,
         corners,
     );
-    finish(given, h, &vertices, &records, out)
+    finish(bad_given, h, &vertices, &records, out)
 }
 
 pub fn build(job: u32, coordinates: &[i16], corners: &[u16], out: &mut [u8]) -> u32

@@ -1,4 +1,3 @@
 -- Refusal 23: base vertices in cells, and which cells a piece is asked in.
-pub mod Hanging
 pub mod Cells
 pub mod Search

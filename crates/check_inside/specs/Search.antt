@@ -1,6 +1,6 @@
 -- What is found in the cells that a right-handed piece's box meets is what a search through all vertices would find. Assumes nothing.
 use mathlib.Core.Path.{_≡_, refl, sym, ap, _∙_, subst, subst₂, fun-ext}
-use mathlib.Core.Bool.{Bool, true, false, false≢true, not, _&&_, _||_}
+use mathlib.Core.Bool.{Bool, true, false, not, _&&_}
 use mathlib.Core.List.{List, [], _∷_}
 use Prim.Native.Nat.{ℕ, zero, suc, _+_, _-_, _≤_, _<_}
 use native.Mathlib.Nat.{le-refl, mul-le-mul}
@@ -8,11 +8,11 @@ use native.Mathlib.Omega.{arith}
 use lib.ListN.{length, getD, replicate, length-replicate}
 use lib.IntN.{pos}
 use lib.Signed.{_<ℤ_}
-use lib.Dec.{eqb, ltb}
+use lib.Dec.{ltb}
 use lib.Ieee.Nearest.{div-mono}
-use borrow.Author.Tests.{eqb-true, eq-eqb, ltb-true, lt-ltb, le-leb}
+use borrow.Author.Tests.{ltb-true, lt-ltb, le-leb}
 use Rattle.laws.specs.Below.{and-left, and-right, same-tests, anyBelow, any-none, any-suc, any-is, any-where, any-same, foldBelow, allBelow}
-use Rattle.laws.specs.Links.{linkAt, link-down, anyAlong, any-along-none, any-along-on, Chain, linksOf, linkedBelow, linked-heads-long, zeros-at, chain-linked, chain-any, keyAmong, key-within, Roomy}
+use Rattle.laws.specs.Links.{any-along-where, chain-finds, Chain, linksOf, linkedBelow, linked-heads-long, zeros-at, chain-linked, keyAmong, key-within, Roomy}
 use Rattle.piece.specs.declared.Piece.{Piece}
 use Rattle.grid.specs.declared.Place.{Place}
 use Rattle.grid.specs.Places.{Point, pointOf}
@@ -20,60 +20,16 @@ use Rattle.grid_volume.specs.Volume.{differencesOf, signedOf, leftHanded}
 use Rattle.grid_inside.specs.Inside.{liesIn}
 use Rattle.grid_inside.specs.Box.{box-x, box-y, box-z}
 use Rattle.stored.specs.declared.Vertex.{Vertex}
-use Rattle.check_refusals.specs.Refusals.{hasCorner}
 use Rattle.check_inside.specs.declared.Cells.{Cells}
 use Rattle.check_inside.specs.declared.Slabs.{Slabs}
 use Rattle.check_inside.specs.declared.Asking.{Asking}
-use Rattle.check_inside.specs.Hanging.{hangsOn}
+use Rattle.check_refusals.specs.Refusals.{hasCorner, hangsOn}
 use Rattle.check_inside.specs.Cells.{slabOf, slabsOf, cellNumber, placeKey, lowerOf, upperOf, askingOf, lowOf, highOf, isWithin, isCorner, standing, hangsAmong, hangsWithin, hangsBelow, anyWithin, inCell, inRow, inLayer, inBlock}
 
 -- ---- tests
 
-or-either : (a b : Bool) → (a || b) ≡ true → (Q : Type 0) → (a ≡ true → Q) → (b ≡ true → Q) → Q
-or-either true b e Q f g = f refl
-or-either false b e Q f g = g e
-
-or-by-first : (a b : Bool) → a ≡ true → (a || b) ≡ true
-or-by-first a b e = rw e
-
-or-by-second : (a b : Bool) → b ≡ true → (a || b) ≡ true
-or-by-second true b e = refl
-or-by-second false b e = e
-
 and-both : (a b : Bool) → a ≡ true → b ≡ true → (a && b) ≡ true
 and-both a b e f = rw (e, f)
-
--- ---- along links
-
-module _ (nexts : List ℕ) (P : ℕ → Bool) where
-  along-where : (bound m : ℕ) → m ≤ bound → anyAlong nexts P m ≡ true → (u : ℕ) × (P u ≡ true)
-  along-where zero zero l e = absurd (false≢true (sym (any-along-none nexts P) ∙ e))
-  along-where zero (suc u) l e = absurd (omega arith)
-  along-where (suc bound) zero l e = absurd (false≢true (sym (any-along-none nexts P) ∙ e))
-  along-where (suc bound) (suc u) l e =
-      or-either (P u) (anyAlong nexts P (linkAt nexts u)) (sym (any-along-on nexts P u) ∙ e) ((u : ℕ) × (P u ≡ true))
-      (λ here. (u, here))
-      (λ later. along-where bound (linkAt nexts u) (omega (arith, link-down nexts u)) later)
-
-  along-more : (Q : ℕ → Bool) → ((u : ℕ) → P u ≡ true → Q u ≡ true) → (bound m : ℕ) → m ≤ bound → anyAlong nexts P m ≡ true → anyAlong nexts Q m ≡ true
-  along-more Q more zero zero l e = absurd (false≢true (sym (any-along-none nexts P) ∙ e))
-  along-more Q more zero (suc u) l e = absurd (omega arith)
-  along-more Q more (suc bound) zero l e = absurd (false≢true (sym (any-along-none nexts P) ∙ e))
-  along-more Q more (suc bound) (suc u) l e =
-      any-along-on nexts Q u
-      ∙ or-either (P u) (anyAlong nexts P (linkAt nexts u)) (sym (any-along-on nexts P u) ∙ e) ((Q u || anyAlong nexts Q (linkAt nexts u)) ≡ true)
-      (λ here. or-by-first (Q u) _ (more u here))
-      (λ later. or-by-second (Q u) _ (along-more Q more bound (linkAt nexts u) (omega (arith, link-down nexts u)) later))
-
--- What has a key is found from its head on.
-chain-finds : (key : ℕ → ℕ) (n : ℕ) (heads nexts : List ℕ) → Chain key n heads nexts → (P : ℕ → Bool) (v : ℕ) → v < n → key v < length heads → P v ≡ true →
-    anyAlong nexts P (getD heads (key v) 0) ≡ true
-chain-finds key n heads nexts c P v l within here =
-    let k = key v in
-    let Q : ℕ → Bool = λ u. eqb (key u) k && P u in
-    along-more nexts Q P (λ u e. and-right (eqb (key u) k) (P u) e) (getD heads k 0) (getD heads k 0) (le-refl (getD heads k 0))
-    (chain-any key n heads nexts c Q k within (λ u b e. eqb-true (key u) k (and-left (eqb (key u) k) (P u) e))
-    ∙ any-is Q n v l (and-both (eqb k k) (P v) (eq-eqb k k refl) here))
 
 -- ---- from one number to another
 
@@ -114,7 +70,7 @@ module _ (heads nexts : List ℕ) (P : ℕ → Bool) (from to : Slabs) where
       let (y, ey) = within-where (from .y) (to .y) (λ y. inRow heads nexts P from to y z) ez in
       let (x, ex) = within-where (from .x) (to .x) (λ x. inCell heads nexts P x y z) ey in
       let head = getD heads (keyAmong (length heads) (cellNumber x y z)) 0 in
-      along-where nexts P head head (le-refl head) ex
+      any-along-where nexts P head ex
 
   block-is : (s : Slabs) → from .x ≤ s .x → s .x ≤ to .x → from .y ≤ s .y → s .y ≤ to .y → from .z ≤ s .z → s .z ≤ to .z →
       inCell heads nexts P (s .x) (s .y) (s .z) ≡ true → inBlock heads nexts P from to ≡ true

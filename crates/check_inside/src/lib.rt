@@ -12,7 +12,7 @@ ghost use Rattle.grid.specs.Places.{pointOf};
 ghost use Rattle.grid_inside.specs.Inside.{liesIn};
 ghost use Rattle.stored.specs.Layout.{vertexIn, recordIn};
 ghost use Rattle.mesh_tables.specs.Tables.{tables};
-ghost use Rattle.check_inside.specs.Hanging.{hangsOn, hangingVertices};
+ghost use Rattle.check_refusals.specs.Refusals.{hangsOn, hangingVertices};
 ghost use Rattle.check_inside.specs.Cells.{slabOf, slabsOf, cellNumber, placeKey, lowerOf, upperOf, askingOf, standing, isCorner, isWithin, hangsAmong, hangsBelow, inCell, inRow, inLayer, inBlock};
 
 // Where the cells begin, and one less than their width.

@@ -1,4 +1,4 @@
--- What it means that check accepts a mesh, in the documents' words: of each row 1 to 10 of "Numbers we give back", and of 22, what holds where it is
+-- What it means that check accepts a mesh, in the documents' words: of each row 1 to 10 of "Numbers we give back", and of 22 and 23, what holds where it is
 -- not given, as plain statements about the tables that the bytes hold.
 use mathlib.Core.Path.{_≡_}
 use mathlib.Core.Logic.{_↔_, _≢_, _⊎_}
@@ -16,10 +16,11 @@ use Rattle.piece.specs.Ends.{cornerAt, endsOf}
 use Rattle.piece_cut.specs.Cut.{cutOf}
 use Rattle.grid.specs.Places.{Point, pointOf}
 use Rattle.grid.specs.Corners.{Midpoint}
+use Rattle.grid_inside.specs.Weights.{WeightedMean}
 use Rattle.stored.specs.declared.Limits.{Limits}
 use Rattle.stored.specs.declared.Vertex.{Vertex}
 use Rattle.stored.specs.Layout.{none, limits, headerWidth, meshLength, byteAt, u16At}
-use Rattle.mesh_tables.specs.Tables.{Tables, tablesOf, baseVertices, allVertices, baseRecords, allRecords, pieceAt, refinementEnds, signedAt, sixfoldAt}
+use Rattle.mesh_tables.specs.Tables.{Tables, tablesOf, baseVertices, allVertices, baseRecords, allRecords, pieceAt, refinementEnds, cornerPoint, signedAt, sixfoldAt}
 
 -- ---- 1 and 2: the bytes
 
@@ -183,6 +184,19 @@ pub record RightFaces (m : Tables) : Type 0 where
 abbrev pub RightUses : Tables → Type 0
 RightUses m = (v : ℕ) → v < baseVertices m → (n : ℕ) × (n < baseRecords m) × CornerOf (pieceAt m n) v
 
+-- ---- 23: no base vertex that hangs on a base record (document 02)
+
+-- "a vertex hang[s] on a piece if it lies in the closed piece and isn't one of its corners": vertex v on record n. The closed piece is all weighted means of its corners.
+pub record HangsOn (m : Tables) (v n : ℕ) : Type 0 where
+  pub lies-in : WeightedMean (cornerPoint (m .vertexAt) (pieceAt m n)) (pointAt m v)
+  pub no-corner : CornerOf (pieceAt m n) v → ⊥
+
+abbrev pub NoVertexHangs : Tables → Type 0
+NoVertexHangs m = (n : ℕ) → n < baseRecords m → (v : ℕ) → v < baseVertices m → HangsOn m v n → ⊥
+
+abbrev pub SomeVertexHangs : Tables → Type 0
+SomeVertexHangs m = (n : ℕ) × (n < baseRecords m) × (v : ℕ) × (v < baseVertices m) × HangsOn m v n
+
 -- ---- 9: the cuts
 
 -- "number of the first child (u16; 65,535 if uncut)": none if uncut
@@ -244,7 +258,7 @@ NoneHangs m = (n : ℕ) → n < allRecords m → Leaf m n → (e : ℕ) → e < 
 
 -- ---- all of them
 
--- 3 to 9 and 22, but for how many vertices and records there may be: what holds also of a mesh in which edges hang, and under any limits.
+-- 3 to 9, 22 and 23, but for how many vertices and records there may be: what holds also of a mesh in which edges hang, and under any limits.
 pub record RightMesh (m : Tables) : Type 0 where
   -- 3: at least 4 base vertices and 1 base record, no "base above all"
   pub counts : RightCounts m
@@ -260,6 +274,8 @@ pub record RightMesh (m : Tables) : Type 0 where
   pub faces : RightFaces m
   -- 8: no "base vertex in no base record"
   pub uses : RightUses m
+  -- 23: no base vertex hangs on a base record
+  pub no-vertex-hangs : NoVertexHangs m
   -- 9: the records beyond the base, and the made vertices, are what cutting gives
   pub cuts : RightCuts m
 
@@ -270,7 +286,7 @@ pub record Accepted (s : List ℕ) : Type 0 where
   pub mark : RightMark s
   -- 3: "at most 1,024 vertices and 3,072 records"
   pub limits : Within limits (tablesOf s)
-  -- the rest of 3, 4 to 9, and 22
+  -- the rest of 3, 4 to 9, 22 and 23
   pub mesh : RightMesh (tablesOf s)
   -- 10: no "hanging edge"
   pub none-hangs : NoneHangs (tablesOf s)

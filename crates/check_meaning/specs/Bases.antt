@@ -5,14 +5,16 @@ use mathlib.Core.Logic.{_≢_, _⊎_, ⊎-elim, Iff·rfl}
 use Prim.Native.Nat.{ℕ, _<_}
 use native.Mathlib.Omega.{arith}
 use lib.ListN.{length}
+use lib.IntN.{pos}
+use lib.Signed.{_<ℤ_}
 use Rattle.laws.specs.Below.{anyBelow, allBelow}
 use Rattle.piece.specs.declared.Piece.{Piece}
 use Rattle.piece_edges.specs.Edges.{lowSlot, highSlot, slots-small, hasSlot, onFace}
 use Rattle.piece.specs.Shape.{Shape, shapeOf, mark, markFits, flagFits, validShape, Valid}
 use Rattle.piece.specs.Ends.{cornerAt}
 use Rattle.stored.specs.declared.Vertex.{Vertex}
-use Rattle.grid_volume.specs.Volume.{signedOf, leftHanded}
-use Rattle.grid_volume.specs.Handed.{not-negative}
+use Rattle.grid_volume.specs.Volume.{signedOf, leftHanded, sixfoldOf}
+use Rattle.grid_volume.specs.Handed.{not-negative, positive}
 use Rattle.mesh_tables.specs.Tables.{Tables, baseVertices, baseRecords, pieceAt, cornerPoint, signedAt, sixfoldAt}
 use Rattle.check_refusals.specs.Refusals.{equalCorners, cornerNotInBase, badCorners, badPiece, badBaseRecord, badBaseRecords, leftHandedRecord, leftHandedRecords, badMarks, badBaseMarks}
 use Rattle.check_meaning.specs.Tests.{Passes, Fails, reads, equal, below, not-below, not-at-most, not-fails, not-passes, fails-unless, and-passes, implies-passes, or-passes, or-fails, all-pass, any-passes, none-passes}
@@ -108,6 +110,13 @@ module _ (m : Tables) where
   pub rule22-holds : Fails (leftHandedRecords m) (RightHanded m)
   unfolding leftHandedRecords leftHandedRecord leftHanded signedAt
   rule22-holds = none-passes (baseRecords m) (λ n l. not-negative (signedOf (cornerPoint (m .vertexAt) (pieceAt m n))))
+
+  -- By both, a base record has a positive value.
+  pub base-right-handed : RightBaseRecords m → RightHanded m → (n : ℕ) → n < baseRecords m → pos 0 <ℤ signedAt (m .vertexAt) (pieceAt m n)
+  unfolding signedAt sixfoldAt sixfoldOf
+  base-right-handed solid handed n l =
+      let z = signedAt (m .vertexAt) (pieceAt m n) in
+      positive z (solid n l .volume) (not-negative z .1 (handed n l))
 
   pub rule6-holds : Fails (badBaseMarks m) (RightBaseMarks m)
   unfolding badBaseMarks

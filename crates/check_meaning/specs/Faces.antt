@@ -13,7 +13,7 @@ use Rattle.check_refusals.specs.Refusals.{hasCorner, faceHas, faceWithin, sameF
 use Rattle.check_meaning.specs.Tests.{Passes, Fails, reads, equal, not-fails, not-passes, fails-unless, and-passes, and-fails, or-passes, or-fails, all-pass, any-passes, none-passes}
 use Rattle.check_meaning.specs.Accepted.{CornerOf, OnRecordFace, SameRecordCorners, SameRecordFace, markedEnds, RightFaces, RightUses}
 
-corner-of : (p : Piece) (x : ℕ) → Passes (hasCorner p x) (CornerOf p x)
+pub corner-of : (p : Piece) (x : ℕ) → Passes (hasCorner p x) (CornerOf p x)
 unfolding hasCorner
 corner-of p x = any-passes 4 λ k l. equal (cornerAt p k) x
 

@@ -77,5 +77,5 @@ unfolding checkOf reportOf
 hanging-first s ten =
     let number : checkNumber s ≡ 10 = sym (report-number s) ∙ ten in
     let reported : checkOf s ≡ hangingReport (tablesOf s) = ap (reportOf (tablesOf s)) number in
-    let (h1, (h2, (h3, (h4, (h5, (h22, (h6, (h7, (h8, (h9, hanging)))))))))) = refuses-exactly s 10 .0 number in
+    let (h1, (h2, (h3, (h4, (h5, (h22, (h6, (h7, (h8, (h23, (h9, hanging))))))))))) = refuses-exactly s 10 .0 number in
     rw reported (first-found (tablesOf s) (⊎-elim (λ t. t) (λ f. absurd (hanging (rule10-holds (tablesOf s) .0 f))) (either (hangingEdge (tablesOf s)))))

@@ -6,6 +6,7 @@ pub mod Heading
 pub mod Vertices
 pub mod Bases
 pub mod Faces
+pub mod Inside
 pub mod Cuts
 pub mod Exactly
 pub mod HangingFirst

@@ -18,14 +18,14 @@ use Rattle.piece_cut.specs.Cut.{childOf, cutOf}
 use Rattle.grid_volume.specs.Volume.{signedOf, sixfoldOf}
 use Rattle.grid.specs.Corners.{Midpoint}
 use Rattle.grid_volume.specs.VolumeTheorems.{half-signed, midpoint-turned}
-use Rattle.grid_volume.specs.Handed.{positive, half-positive, not-negative}
+use Rattle.grid_volume.specs.Handed.{half-positive}
 use Rattle.stored.specs.Layout.{none}
 use Rattle.mesh_tables.specs.Tables.{Tables, baseRecords, allRecords, pieceAt, isLeaf, cornerPoint, signedAt, sixfoldAt}
 use Rattle.check_refusals.specs.Refusals.{isChildOf}
 use Rattle.check_refusals.specs.Check.{leafSixfold, sixfold}
 use Rattle.check_meaning.specs.Tests.{fails-unless}
 use Rattle.check_meaning.specs.Accepted.{RightMesh, RightCut, firstChild, pointAt}
-use Rattle.check_meaning.specs.Bases.{slots-apart, valid-is}
+use Rattle.check_meaning.specs.Bases.{slots-apart, valid-is, base-right-handed}
 use Rattle.check_meaning.specs.Cuts.{Four, child-of}
 use Rattle.check_meaning.specs.Descent.{ends-are, lower-is-end, higher-is-end, child-corner, by-descent, every-sound, base-no-child}
 use Rattle.check_meaning.specs.Sums.{sum-plus, sum-of-none, sum-swap, sum-of-one, sum-of-part, sum-at, sum-parts}
@@ -79,7 +79,7 @@ module _ (m : Tables) (a : RightMesh m) (four : (n : ℕ) → Four (pieceAt m n)
   unfolding signedAt sixfoldAt sixfoldOf
   every-right-handed =
       by-descent m (a .cuts) (λ n. pos 0 <ℤ signed m n)
-      (λ n l. positive (signed m n) (a .base-records n l .volume) (not-negative (signed m n) .1 (a .handed n l)))
+      (base-right-handed m (a .base-records) (a .handed))
       (λ c l d h.
       let (first, second) = children-halve-signed (d .parent) (omega (arith, d .before)) (d .cut) in
       let twofold : ℕ → ℤ = λ n. pos 2 *ℤ signed m n in

@@ -1,4 +1,4 @@
--- What check answers, for every byte string: document 01, "Numbers we give back", and document 02's 22.
+-- What check answers, for every byte string: document 01, "Numbers we give back", and document 02's 22 and 23.
 use mathlib.Core.Path.{_≡_, sym, _∙_}
 use mathlib.Core.Bool.{cond}
 use mathlib.Core.List.{List, [], _∷_, _++_}
@@ -11,9 +11,9 @@ use Rattle.stored.specs.declared.Record.{Record}
 use Rattle.stored.specs.Layout.{limits, headerOf}
 use Rattle.check_refusals.specs.declared.Report.{Report}
 use Rattle.mesh_tables.specs.Tables.{Tables, tablesOf, allRecords, uncut, isLeaf, sixfoldAt, hangsAt, leafHangs, hangingEdge}
-use Rattle.check_refusals.specs.Refusals.{wrongLength, wrongMark, wrongCounts, badVertices, badBaseRecords, leftHandedRecords, badBaseMarks, badBaseFaces, unusedVertices, badCuts}
+use Rattle.check_refusals.specs.Refusals.{wrongLength, wrongMark, wrongCounts, badVertices, badBaseRecords, leftHandedRecords, badBaseMarks, badBaseFaces, unusedVertices, hangingVertices, badCuts}
 
--- Refusals 4 to 8, of the vertices and the base, and 22, "tried after 5 and before 6".
+-- Refusals 4 to 8, of the vertices and the base; 22 is "tried after 5 and before 6", 23 "after 8 and before 9".
 abbrev pub baseRows : Tables → List Row
 baseRows m =
     row 4 (badVertices m)
@@ -22,17 +22,18 @@ baseRows m =
     ∷ row 6 (badBaseMarks m)
     ∷ row 7 (badBaseFaces m)
     ∷ row 8 (unusedVertices m)
+    ∷ row 23 (hangingVertices m)
     ∷ []
 
 -- 9 and 10, of the cuts.
 abbrev pub cutRows : Tables → List Row
 cutRows m = row 9 (badCuts m) ∷ row 10 (hangingEdge m) ∷ []
 
--- Refusals 4 to 10 and 22, of the tables.
+-- Refusals 4 to 10, 22 and 23, of the tables.
 unfoldable pub tableRows : Tables → List Row
 tableRows m = baseRows m ++ cutRows m
 
--- Refusals 1 to 10 in the order of the numbers, 22 between 5 and 6.
+-- Refusals 1 to 10 in the order of the numbers, 22 between 5 and 6, 23 between 8 and 9.
 unfoldable pub rows : List ℕ → List Row
 rows s = row 1 (wrongLength s) ∷ row 2 (wrongMark s) ∷ row 3 (wrongCounts limits (headerOf s)) ∷ tableRows (tablesOf s)
 

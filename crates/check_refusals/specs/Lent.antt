@@ -24,9 +24,10 @@ fit-not-short heads nexts keys places n h t f = not-short heads nexts n (record 
 pub just-made : (n : ℕ) → Empty (replicate n 0)
 just-made n = sym (ap (λ (k : ℕ). replicate k 0) (length-replicate {A = ℕ} n 0))
 
--- To the rules on the base: links of the vertices and of the base records' faces, and a count for each base vertex.
+-- To the rules on the base: links of the vertices, of the base vertices and of the base records' faces, and a count for each base vertex.
 pub record LentToBase (h : Header) (heads faceHeads links uses : ℕ) : Type 0 where
   pub vertices : LinksFit heads links (h .vertices)
+  pub base-vertices : LinksFit heads links (h .«base_vertices»)
   pub faces : LinksFit faceHeads links (4 * h .«base_records»)
   pub each-base-vertex : h .«base_vertices» ≤ uses
 
@@ -42,6 +43,8 @@ module _ (h : Header) (b : Bounded h) where
   lent-to-base =
       record {
         vertices = record { some = omega arith; enough = omega (arith, b .vertices); fits = omega (arith, b .vertices) };
+        base-vertices =
+            record { some = omega arith; enough = omega (arith, b .vertices, b .baseVertices); fits = omega (arith, b .vertices, b .baseVertices) };
         faces = record { some = omega arith; enough = omega (arith, b .records, b .baseRecords); fits = omega (arith, b .records, b .baseRecords) };
         each-base-vertex = omega (arith, b .vertices, b .baseVertices);
       }

@@ -1,4 +1,4 @@
--- Document 01's table, refusals 1 to 10, and document 02's 22: for each number when exactly it is given.
+-- Document 01's table, refusals 1 to 10, and document 02's 22 and 23: for each number when exactly it is given.
 use mathlib.Core.Bool.{Bool, not, cond, _&&_, _||_}
 use mathlib.Core.List.{List}
 use Prim.Native.Nat.{ℕ, _+_}
@@ -14,6 +14,7 @@ use Rattle.piece.specs.Same.{samePiece}
 use Rattle.piece_cut.specs.Cut.{cutOf}
 use Rattle.grid.specs.Places.{pointOf, onGrid, samePlace, isHalfway}
 use Rattle.grid_volume.specs.Volume.{leftHanded}
+use Rattle.grid_inside.specs.Inside.{liesIn}
 use Rattle.stored.specs.declared.Limits.{Limits}
 use Rattle.stored.specs.declared.Header.{Header}
 use Rattle.stored.specs.declared.Vertex.{Vertex}
@@ -182,6 +183,18 @@ unusedVertex m v = not (anyBelow (baseRecords m) (λ n. hasCorner (pieceAt m n) 
 
 unfoldable pub unusedVertices : Tables → Bool
 unusedVertices m = anyBelow (baseVertices m) (unusedVertex m)
+
+-- ---- 23, document 02: "a vertex hang[s] on a piece if it lies in the closed piece and isn't one of its corners"
+
+unfoldable pub hangsOn : (ℕ → Vertex) → Piece → ℕ → Bool
+hangsOn vertexAt p v = not (hasCorner p v) && liesIn (cornerPoint vertexAt p) (pointOf (vertexAt v .place))
+
+-- "For base meshes that meaning holds from now on": some base vertex hangs on base record n.
+unfoldable pub vertexHangs : Tables → ℕ → Bool
+vertexHangs m n = anyBelow (baseVertices m) (hangsOn (m .vertexAt) (pieceAt m n))
+
+unfoldable pub hangingVertices : Tables → Bool
+hangingVertices m = anyBelow (baseRecords m) (vertexHangs m)
 
 -- ---- 9
 

@@ -8,9 +8,9 @@ use Rattle.laws.specs.Order.{given-passes, in-turn}
 use Rattle.mesh_tables.specs.Tables.{tablesOf}
 use Rattle.check_refusals.specs.Check.{rows, tableRows, checkNumber, reportOf, checkOf}
 
-pub check-small : (s : List ℕ) → checkNumber s ≤ 22
+pub check-small : (s : List ℕ) → checkNumber s ≤ 23
 unfolding checkNumber rows tableRows
-check-small s = leb-true (checkNumber s) 22 (given-passes (λ n. leb n 22) (rows s) refl)
+check-small s = leb-true (checkNumber s) 23 (given-passes (λ n. leb n 23) (rows s) refl)
 
 pub report-number : (s : List ℕ) → checkOf s .number ≡ checkNumber s
 unfolding checkOf reportOf checkNumber rows tableRows

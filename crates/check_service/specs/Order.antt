@@ -12,11 +12,11 @@ use Rattle.stored.specs.Layout.{limits, headerOf, rightLength, rightMark}
 use Rattle.check_hanging.specs.Hanging.{foundOf, reported, found-reported}
 use Rattle.mesh_tables.specs.Tables.{Tables, tablesOf}
 use Rattle.check_refusals.specs.declared.Report.{Report}
-use Rattle.check_refusals.specs.Refusals.{wrongLength, wrongMark, wrongCounts, badVertices, badBaseRecords, leftHandedRecords, badBaseMarks, badBaseFaces, unusedVertices, badCuts}
+use Rattle.check_refusals.specs.Refusals.{wrongLength, wrongMark, wrongCounts, badVertices, badBaseRecords, leftHandedRecords, badBaseMarks, badBaseFaces, unusedVertices, hangingVertices, badCuts}
 use Rattle.check_refusals.specs.Check.{baseRows, cutRows, tableRows, rows, checkNumber, refusedWith, reportOf, checkOf}
 use Rattle.check_service.specs.Verdict.{withoutFigures}
 
--- Refusals 4, 5, 22, 6, 7 and 8, tried in this order, or 0.
+-- Refusals 4, 5, 22, 6, 7, 8 and 23, tried in this order, or 0.
 unfoldable pub baseNumber : Tables → ℕ
 baseNumber m = firstBroken (baseRows m)
 
@@ -24,7 +24,7 @@ baseNumber m = firstBroken (baseRows m)
 unfoldable pub cutsReport : Tables → Report
 cutsReport m = cond (badCuts m) (refusedWith 9) (reported (foundOf m))
 
--- 4 to 10 and 22, or none.
+-- 4 to 10, 22 and 23, or none.
 unfoldable pub judgedReport : Tables → Report
 judgedReport m = let later = cutsReport m in cond (eqb (baseNumber m) 0) later (refusedWith (baseNumber m))
 
@@ -61,9 +61,9 @@ module _ (s : List ℕ) where
   unfolding checkOf checkNumber rows firstBroken wrongLength wrongMark
   verdict-rest e f g = rw (e, f, g) (judged-reported (tablesOf s))
 
-  -- Where rules 1 to 9 and 22 hold, what check reports, but for the figures, is the paper's number and values for what the search found.
+  -- Where rules 1 to 9, 22 and 23 hold, what check reports, but for the figures, is the paper's number and values for what the search found.
   pub verdict-found : rightLength s ≡ true → rightMark s ≡ true → wrongCounts limits (headerOf s) ≡ false → let m = tablesOf s in
-      badVertices m ≡ false → badBaseRecords m ≡ false → leftHandedRecords m ≡ false → badBaseMarks m ≡ false → badBaseFaces m ≡ false → unusedVertices m ≡ false → badCuts m ≡ false →
+      badVertices m ≡ false → badBaseRecords m ≡ false → leftHandedRecords m ≡ false → badBaseMarks m ≡ false → badBaseFaces m ≡ false → unusedVertices m ≡ false → hangingVertices m ≡ false → badCuts m ≡ false →
       withoutFigures (checkOf s) ≡ reported (foundOf m)
   unfolding judgedReport cutsReport baseNumber firstBroken
-  verdict-found b₁ b₂ b₃ b₄ b₅ b₂₂ b₆ b₇ b₈ b₉ = sym (verdict-rest b₁ b₂ b₃) ∙ rw (b₄, b₅, b₂₂, b₆, b₇, b₈, b₉)
+  verdict-found b₁ b₂ b₃ b₄ b₅ b₂₂ b₆ b₇ b₈ b₂₃ b₉ = sym (verdict-rest b₁ b₂ b₃) ∙ rw (b₄, b₅, b₂₂, b₆, b₇, b₈, b₂₃, b₉)

@@ -84,7 +84,7 @@ fn closed<'a>(
     }
 }
 
-// Refusals 4, 5, 22, 6, 7 and 8, of the vertices and the base, tried in this order, or 0.
+// Refusals 4, 5, 22, 6, 7, 8 and 23, of the vertices and the base, tried in this order, or 0.
 fn judged_base<'a>(
     h: Header,
     l: Layout,
@@ -116,6 +116,9 @@ fn judged_base<'a>(
     if check_uses::unused_vertices(h, l, base, grown, uses) {
         return 8;
     }
+    if check_inside::hanging_vertices(h, l, base, grown, heads, links) {
+        return 23;
+    }
     0
 }
 
@@ -139,7 +142,7 @@ fn judged_cuts<'a>(
     closed(h, l, base, grown, heads, links)
 }
 
-// Refusals 4 to 10 and 22, or none. Each vertex has one count, of its uses and then of the edges that it halves.
+// Refusals 4 to 10, 22 and 23, or none. Each vertex has one count, of its uses and then of the edges that it halves.
 fn judged_with<'a>(
     h: Header,
     l: Layout,

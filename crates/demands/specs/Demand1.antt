@@ -47,7 +47,7 @@ use Rattle.demands.specs.Demand3.{RefinedFrom, any-room}
 
 -- What check answers, for a byte string.
 pub record CheckOutcome (s : List ℕ) (r : Report) : Type 0 where
-  -- Accepted, and then it is as long as its header says, "20 + 10·vertices + 17·records"; or refused with one of 1 to 10 or 22, and then leaves, depth and
+  -- Accepted, and then it is as long as its header says, "20 + 10·vertices + 17·records"; or refused with one of 1 to 10, 22 or 23, and then leaves, depth and
   -- volume are 0.
   pub either :
       ((r .number ≡ 0) × (length s ≡ meshLength (headerOf s .vertices) (headerOf s .records)))
@@ -81,16 +81,16 @@ pub record MeshIn (out : List ℕ) (room : ℕ) : Type 0 where
 
 -- What build answers, for a job number, coordinates and corners, and a length of the output buffer.
 pub record BuildOutcome (job : ℕ) (coordinates : List ℤ) (corners : List ℕ) (room number : ℕ) (bytes : List ℕ) : Type 0 where
-  -- "either a mesh", which check accepts; "or a numbered refusal", one of those that build tries, "21, then 3, 4, 5, 7, 8, 20", and "all zeros".
+  -- "either a mesh", which check accepts; "or a numbered refusal", one of those that build tries, "21, then 3, 4, 5, 7, 8, 20" with 23 "before 20", and "all zeros".
   pub either :
       ((number ≡ 0) × (out : MeshIn bytes room) × (checkNumber (meshBytes (out .mesh)) ≡ 0))
-      ⊎ (OneOf (21 ∷ 3 ∷ 4 ∷ 5 ∷ 7 ∷ 8 ∷ 20 ∷ []) number × (bytes ≡ replicate room 0))
+      ⊎ (OneOf (21 ∷ 3 ∷ 4 ∷ 5 ∷ 7 ∷ 8 ∷ 23 ∷ 20 ∷ []) number × (bytes ≡ replicate room 0))
   -- The output buffer keeps its length.
   pub length : length bytes ≡ room
 
 -- What refine answers, for two byte strings and a length of the output buffer.
 pub record RefineOutcome (mesh selection : List ℕ) (room number : ℕ) (bytes : List ℕ) : Type 0 where
-  -- "either a mesh", "or a numbered refusal", one of 1 to 20 or 22, and "all zeros".
+  -- "either a mesh", "or a numbered refusal", one of 1 to 20, 22 or 23, and "all zeros".
   pub either :
       ((number ≡ 0) × MeshIn bytes room)
       ⊎ (OneOf (checkNumbers ++ (11 ∷ 12 ∷ 13 ∷ 14 ∷ 15 ∷ 16 ∷ 17 ∷ 18 ∷ 19 ∷ 20 ∷ [])) number × (bytes ≡ replicate room 0))

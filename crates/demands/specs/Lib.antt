@@ -3,6 +3,7 @@ pub mod Demand1
 pub mod Demand2
 pub mod Demand3
 pub mod Handed
+pub mod Hanging
 pub mod Numbers
 pub mod Starred
 pub mod Impostors

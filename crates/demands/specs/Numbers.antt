@@ -21,7 +21,7 @@ use Rattle.demands_proofs.specs.GivenTypes.{given-by-types}
 pub check-refuses : (mesh : List ℕ) (n : ℕ) → (checkNumber mesh ≡ n) ↔ Giving (checkRules mesh) n
 check-refuses = Check.refuses-exactly
 
--- Build likewise: 21, 3, 4, 5, 7, 8, 20, and 0.
+-- Build likewise: 21, 3, 4, 5, 7, 8, 23, 20, and 0.
 pub build-gives : (job : ℕ) (coordinates : List ℤ) (corners : List ℕ) (room : ℕ) → ArgumentTypes job coordinates corners → BuildExactly job coordinates corners room
 build-gives job coordinates corners room types = Build.build-exactly job coordinates corners room (given-by-types job coordinates corners types)
 

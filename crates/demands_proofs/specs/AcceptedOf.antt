@@ -17,10 +17,10 @@ use Rattle.demands_words.specs.Words.{BaseMesh, ProperlyMarked, Shallow, Number
 use Rattle.demands_proofs.specs.Holds.{Holds}
 use Rattle.demands_proofs.specs.Counts.{vertices-within, records-within}
 use Rattle.demands_proofs.specs.Read.{written-counted, written-holds}
-use Rattle.demands_proofs.specs.HeldEntries.{held-counts, held-vertices, held-base-records, held-handed, held-base-marks, held-faces, held-uses}
+use Rattle.demands_proofs.specs.HeldEntries.{held-counts, held-vertices, held-base-records, held-handed, held-base-marks, held-faces, held-uses, held-inside}
 use Rattle.demands_proofs.specs.HeldCuts.{held-cuts, held-rests}
 
--- Tables that hold a numbered set of cuts of a properly marked base mesh are as rules 3 to 9 and 22 ask.
+-- Tables that hold a numbered set of cuts of a properly marked base mesh are as rules 3 to 9, 22 and 23 ask.
 pub held-right : (t : Tables) (b : BaseMesh) (C : Cuts (b .pieces)) (N : Numbering) → Holds t b N → ProperlyMarked b → Shallow b C → VerticesNumbered b C N → RecordsNumbered b C N → N .records ≤ none → RightMesh t
 held-right t b C N h marked shallow nv nr few =
     record {
@@ -31,6 +31,7 @@ held-right t b C N h marked shallow nv nr few =
       base-marks = held-base-marks t b C N h marked nv nr;
       faces = held-faces t b C N h marked nv nr;
       uses = held-uses t b C N h marked nv nr;
+      no-vertex-hangs = held-inside t b C N h marked nv nr;
       cuts = held-cuts t b C N h marked shallow nv nr few;
     }
 

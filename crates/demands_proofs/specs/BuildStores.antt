@@ -29,9 +29,9 @@ use Rattle.build_meaning.specs.Output.{accepted-bytes}
 use Rattle.cuts_names.specs.Names as Names
 use Rattle.cuts_names.specs.Pieces.{Node, Side, Piece, generation, pieceAt, piece-root}
 use Rattle.cuts.specs.Sets.{There, NoneHangs}
-use Rattle.demands_words.specs.Words.{BaseMesh, named, SameBaseFace, SameBaseMark, RightPiece, ProperlyMarked, Fits, Shallow, Numbering, VerticesNumbered, RecordsNumbered, vertexOf, recordOf, written, Stores, RightSet, no-cuts, BuiltMesh, builtBase, CountsWithin, RightPlaces, RightPieces, RightTogether, AllUsed}
+use Rattle.demands_words.specs.Words.{BaseMesh, named, SameBaseFace, SameBaseMark, RightPiece, ProperlyMarked, Fits, Shallow, Numbering, VerticesNumbered, RecordsNumbered, vertexOf, recordOf, written, Stores, RightSet, no-cuts, BuiltMesh, builtBase, CountsWithin, RightPlaces, RightPieces, RightTogether, AllUsed, NoVertexHangs}
 use Rattle.demands_proofs.specs.Lawful.{ends-pair}
-use Rattle.demands_proofs.specs.Turned.{pieces-turned, together-turned, used-turned}
+use Rattle.demands_proofs.specs.Turned.{pieces-turned, together-turned, used-turned, none-turned}
 use Rattle.demands_proofs.specs.PlainRules.{built-turned}
 use Rattle.demands_proofs.specs.BuildNumbers.{build-exactly}
 
@@ -92,8 +92,8 @@ module _ (coordinates : List ℤ) (corners : List ℕ) where
         ends-pair (markedPiece coordinates p) (markedPiece coordinates q) (mark (shapeOf (markedPiece coordinates p)) i) (mark (shapeOf (markedPiece coordinates q)) j)
         (shared-face-one-mark coordinates p q (pieces r lr .different) (pieces s ls .different) i j hi hj same)
 
-    pub plain-marked : CountsWithin b → RightPlaces b → RightTogether b → AllUsed b → ProperlyMarked b
-    plain-marked counts places together used =
+    pub plain-marked : CountsWithin b → RightPlaces b → RightTogether b → AllUsed b → NoVertexHangs b → ProperlyMarked b
+    plain-marked counts places together used inside =
         record {
           some-vertices = counts .some-vertices;
           some-pieces = counts .some-pieces;
@@ -101,6 +101,7 @@ module _ (coordinates : List ℤ) (corners : List ℕ) where
           one-place = places .one-place;
           pieces = right-piece;
           used = used;
+          no-vertex-hangs = inside;
           in-two = together .in-two;
           alone = together .alone;
           one-mark = λ r s i j h l hi hj. one-mark r s i j (omega arith) l hi hj;
@@ -206,7 +207,7 @@ module _ (job : ℕ) (coordinates : List ℤ) (corners : List ℕ) (room : ℕ) 
       let pieces : RightPieces b = pieces-turned t (asked .pieces) in
       let counts : CountsWithin b = record { some-vertices = asked .counts .some-vertices; most-vertices = asked .counts .most-vertices; some-pieces = asked .counts .some-pieces; most-pieces = asked .counts .most-pieces } in
       let places : RightPlaces b = record { on-grid = asked .places .on-grid; one-place = asked .places .one-place } in (
-        record { marked = plain-marked coordinates corners pieces counts places (together-turned t (asked .together)) (used-turned t (asked .used)); none-hangs = none-hangs b; fits = fits b counts; shallow = shallow b },
+        record { marked = plain-marked coordinates corners pieces counts places (together-turned t (asked .together)) (used-turned t (asked .used)) (none-turned t (asked .no-vertex-hangs)); none-hangs = none-hangs b; fits = fits b counts; shallow = shallow b },
         plain-stores coordinates corners job (g .fits-job) pieces,
       )
 

@@ -8,16 +8,16 @@ use Prim.Native.Nat.{ℕ, _+_, _/_, _%_, _<_}
 use native.Mathlib.Nat.{add-comm}
 use native.Mathlib.Omega.{arith}
 use lib.Dec.{eqb}
-use lib.IntN.{+ℤ-comm}
 use borrow.Author.Tests.{eqb-true, eqb-false, eq-eqb}
 use Rattle.piece.specs.Shape.{lastGeneration}
 use Rattle.laws.specs.Below.{either}
 use Rattle.piece_edges.specs.Edges.{lowSlot, highSlot, slots-small}
 use Rattle.grid.specs.declared.Place.{Place}
-use Rattle.grid.specs.Places.{Point, coordinate, pointOf, isHalfway, halfwayOf}
+use Rattle.grid.specs.Places.{coordinate, pointOf, isHalfway, halfwayOf}
 use Rattle.grid.specs.PlaceLaws.{off-multiple}
 use Rattle.grid.specs.Corners.{Midpoint}
 use Rattle.grid.specs.GridTheorems.{on-grid-exactly, halfway-exactly}
+use Rattle.grid_volume.specs.VolumeTheorems.{midpoint-turned}
 use Rattle.check_meaning.specs.Accepted.{OnGrid}
 use Rattle.cuts_names.specs.Lists.{either-has}
 use Rattle.cuts_names.specs.Names as Names
@@ -57,10 +57,6 @@ halfway-of-sums : (w p q : Place) → w .x + w .x ≡ p .x + q .x → w .y + w .
     Midpoint (pointOf w) (pointOf p) (pointOf q)
 unfolding isHalfway
 halfway-of-sums w p q x y z = halfway-exactly w p q .0 (simp (eq-eqb _ _ x, eq-eqb _ _ y, eq-eqb _ _ z))
-
--- What stands halfway between u and v stands halfway between v and u.
-midpoint-either : {w u v : Point} → Midpoint w u v → Midpoint w v u
-midpoint-either {w} {u} {v} m = record { x = m .x ∙ +ℤ-comm (u .x) (v .x); y = m .y ∙ +ℤ-comm (u .y) (v .y); z = m .z ∙ +ℤ-comm (u .z) (v .z) }
 
 -- ---- names over the base
 
@@ -140,5 +136,5 @@ module _ (b : BaseMesh) where
           let whole : Halfway (mid x y) (lowEnd p) (highEnd p) = subst (λ (w : Name). Halfway w (lowEnd p) (highEnd p)) (sym e) exact-halfway in
           ⊎-elim
           (λ s. halfway-named (mid x y) (s .0) (s .1) whole)
-          (λ s. halfway-named (mid x y) (s .0) (s .1) (midpoint-either whole))
+          (λ s. halfway-named (mid x y) (s .0) (s .1) (midpoint-turned _ _ _ whole))
           (mid-injective x y (lowEnd p) (highEnd p) e)

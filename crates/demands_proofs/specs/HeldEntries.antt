@@ -1,4 +1,4 @@
--- Tables that hold a numbered set of cuts of a properly marked base mesh, entry by entry, and what rules 3 to 8 ask of them. Assumes nothing.
+-- Tables that hold a numbered set of cuts of a properly marked base mesh, entry by entry, and what rules 3 to 8, 22 and 23 ask of them. Assumes nothing.
 use mathlib.Core.Path.{_≡_, refl, sym, ap, ap₂, _∙_, subst}
 use mathlib.Core.Logic.{_↔_}
 use mathlib.Core.List.{[], _∷_}
@@ -17,13 +17,15 @@ use Rattle.grid.specs.Places.{Point, pointOf}
 use Rattle.grid_volume.specs.Volume.{signedOf, sixfoldOf}
 use Rattle.grid_volume.specs.Formal.{same-corners as signed-four}
 use Rattle.grid_volume.specs.Handed.{not-negative, positive-solid, positive-not-negative}
+use Rattle.grid_inside.specs.Weights.{WeightedMean}
+use Rattle.grid_inside.specs.Corners.{mean-four}
 use Rattle.stored.specs.declared.Vertex.{Vertex}
 use Rattle.stored.specs.declared.Record.{Record}
 use Rattle.stored.specs.Layout.{none}
 use Rattle.mesh_tables.specs.Tables as Check
 use Rattle.mesh_tables.specs.Tables.{Tables, baseVertices, baseRecords, signedAt, sixfoldAt}
 use Rattle.check_meaning.specs.Accepted as Accepted
-use Rattle.check_meaning.specs.Accepted.{RightCounts, RightVertices, RightBaseRecords, RightHanded, RightBaseMarks, RightFaces, RightUses, Made, pointAt, parentP, parentQ, firstChild, markedEnds}
+use Rattle.check_meaning.specs.Accepted.{RightCounts, RightVertices, RightBaseRecords, RightHanded, RightBaseMarks, RightFaces, RightUses, NoVertexHangs, Made, pointAt, parentP, parentQ, firstChild, markedEnds}
 use Rattle.build_meaning.specs.Edges.{ends-same}
 use Rattle.cuts_names.specs.Names as Names
 use Rattle.cuts_names.specs.Names.{mid}
@@ -178,12 +180,15 @@ module _ (t : Tables) (b : BaseMesh) (C : Cuts (b .pieces)) (N : Numbering) (h :
 
     -- ---- 5
 
-    -- A base record has its piece's signed value.
+    -- A base record's corners stand where its piece's do.
+    base-points : (r : ℕ) → r < b .pieces → (k : ℕ) → k < 4 → Check.cornerPoint (t .vertexAt) (Check.pieceAt t r) k ≡ Base.pointAt b (b .cornerAt r k)
+    base-points r l k m = ap (pointAt t) (base-corner r l k m) ∙ base-point (b .cornerAt r k) (marked .pieces r l .corners k m)
+
+    -- It has its piece's signed value.
     base-signed : (r : ℕ) → r < b .pieces → signedAt (t .vertexAt) (Check.pieceAt t r) ≡ signedOf (λ k. Base.pointAt b (b .cornerAt r k))
     unfolding signedAt
     base-signed r l =
-        signed-four (Check.cornerPoint (t .vertexAt) (Check.pieceAt t r)) (λ k. Base.pointAt b (b .cornerAt r k))
-        (λ k m. ap (pointAt t) (base-corner r l k m) ∙ base-point (b .cornerAt r k) (marked .pieces r l .corners k m))
+        signed-four (Check.cornerPoint (t .vertexAt) (Check.pieceAt t r)) (λ k. Base.pointAt b (b .cornerAt r k)) (base-points r l)
 
     base-record : (r : ℕ) → r < b .pieces → Accepted.BaseRecord t r
     unfolding sixfoldAt signedAt sixfoldOf
@@ -281,3 +286,16 @@ module _ (t : Tables) (b : BaseMesh) (C : Cuts (b .pieces)) (N : Numbering) (h :
     held-uses v l =
         let (r, m, c) = marked .used v (in-base v l) in
         (r, omega (arith, h .base-records), corner-of r m v .1 c)
+
+    -- ---- 23
+
+    pub held-inside : NoVertexHangs t
+    held-inside r l v m x =
+        let k = base-record-in r l in
+        let o = in-base v m in
+        let corners : ℕ → Point = λ k. Base.pointAt b (b .cornerAt r k) in
+        marked .no-vertex-hangs v r o k
+        (record {
+          lies-in = subst (WeightedMean corners) (base-point v o) (mean-four (Check.cornerPoint (t .vertexAt) (Check.pieceAt t r)) corners (base-points r k) (pointAt t v) (x .lies-in));
+          no-corner = λ c. x .no-corner (corner-of r k v .1 c);
+        })

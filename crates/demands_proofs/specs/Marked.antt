@@ -2,11 +2,10 @@
 -- Assumes nothing.
 use Prim.Native.Nat.{ℕ, _<_}
 use Rattle.piece.specs.Shape.{shapeOf, mark}
-use Rattle.grid_volume.specs.Volume.{sixfoldOf}
-use Rattle.grid_volume.specs.Handed.{positive, not-negative}
 use Rattle.mesh_tables.specs.Tables as Check
-use Rattle.mesh_tables.specs.Tables.{baseRecords, pieceAt, signedAt, sixfoldAt}
+use Rattle.mesh_tables.specs.Tables.{baseRecords, pieceAt, signedAt}
 use Rattle.check_meaning.specs.Accepted.{RightMesh}
+use Rattle.check_meaning.specs.Bases.{base-right-handed}
 use Rattle.check_meaning.specs.Cuts.{Four}
 use Rattle.demands_words.specs.Words.{RightPiece, ProperlyMarked}
 use Rattle.demands_proofs.specs.Lawful.{ends-pair}
@@ -14,14 +13,14 @@ use Rattle.demands_proofs.specs.BaseOf.{baseOf}
 
 module _ (m : Check.Tables) (a : RightMesh m) (four : (n : ℕ) → Four (pieceAt m n)) where
   right-piece : (r : ℕ) → r < baseRecords m → RightPiece (baseOf m) r
-  unfolding sixfoldAt signedAt sixfoldOf
+  unfolding signedAt
   right-piece r h =
       let x = a .base-records r h in
       let y = a .base-marks r h in
       record {
         corners = x .in-base;
         different = x .different;
-        right-handed = let z = signedAt (m .vertexAt) (pieceAt m r) in positive z (x .volume) (not-negative z .1 (a .handed r h));
+        right-handed = base-right-handed m (a .base-records) (a .handed) r h;
         marked = record { edge = y .edge; four = four r .marks; marks = y .marks; refinement-faces = y .refinement-faces };
         flag = x .flag;
       }
@@ -35,6 +34,7 @@ module _ (m : Check.Tables) (a : RightMesh m) (four : (n : ℕ) → Four (pieceA
         one-place = a .vertices .one-place;
         pieces = right-piece;
         used = a .uses;
+        no-vertex-hangs = λ v r l h x. a .no-vertex-hangs r h v l (record { lies-in = x .lies-in; no-corner = x .no-corner });
         in-two = a .faces .in-two;
         alone = a .faces .different;
         one-mark =

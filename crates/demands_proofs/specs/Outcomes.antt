@@ -111,7 +111,7 @@ module _ (job : ℕ) (coordinates : List ℤ) (corners : List ℕ) where
   built-as-long = mesh-as-long (plainMesh job coordinates corners) built-vertices built-records
 
 module _ (job : ℕ) (coordinates : List ℤ) (corners : List ℕ) (room : ℕ) where
-  pub build-number : OneOf (0 ∷ 21 ∷ 3 ∷ 4 ∷ 5 ∷ 7 ∷ 8 ∷ 20 ∷ []) (buildNumber job coordinates corners room)
+  pub build-number : OneOf (0 ∷ 21 ∷ 3 ∷ 4 ∷ 5 ∷ 7 ∷ 8 ∷ 23 ∷ 20 ∷ []) (buildNumber job coordinates corners room)
   unfolding buildNumber buildRows
   build-number = one-of-them (buildRows job coordinates corners room)
 
@@ -162,7 +162,7 @@ module _ (mesh selection : List ℕ) (room : ℕ) where
   abbrev result : Mesh
   result = resultOf (closed mesh selection)
 
-  -- "Refine gives 1 to 20", and 22 with check.
+  -- "Refine gives 1 to 20", and 22 and 23 with check.
   pub refine-number : OneOf (0 ∷ (checkNumbers ++ (11 ∷ 12 ∷ 13 ∷ 14 ∷ 15 ∷ 16 ∷ 17 ∷ 18 ∷ 19 ∷ 20 ∷ []))) (refineNumber mesh selection room)
   unfolding refineNumber rows tableRows refineSelectionRows selectionRows roundRow resultRows
   refine-number = one-of-them _

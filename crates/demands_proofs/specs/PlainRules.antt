@@ -12,26 +12,28 @@ use Rattle.piece.specs.declared.Piece.{Piece}
 use Rattle.piece.specs.Ends.{cornerAt}
 use Rattle.grid.specs.Places.{Point, pointOf}
 use Rattle.grid_volume.specs.Volume.{sixfoldOf}
+use Rattle.grid_inside.specs.Weights.{WeightedMean}
+use Rattle.grid_inside.specs.Corners.{mean-four}
 use Rattle.stored.specs.declared.Header.{Header}
 use Rattle.stored.specs.declared.Vertex.{Vertex}
-use Rattle.stored.specs.declared.Record.{Record}
-use Rattle.stored.specs.Layout.{storedNone, limits}
+use Rattle.stored.specs.Layout.{limits}
 use Rattle.mesh_tables.specs.Tables as Check
-use Rattle.mesh_tables.specs.Tables.{baseVertices, allVertices, baseRecords, pieceAt, sixfoldAt}
-use Rattle.check_refusals.specs.Refusals.{wrongCounts, badVertices, badBaseFaces, unusedVertices}
-use Rattle.check_meaning.specs.Tests.{Fails, reads, equal, not-below, not-fails, or-fails}
+use Rattle.mesh_tables.specs.Tables.{baseVertices, allVertices, baseRecords, pieceAt, cornerPoint, sixfoldAt}
+use Rattle.check_refusals.specs.Refusals.{wrongCounts, badVertices, badBaseFaces, unusedVertices, hangingVertices}
+use Rattle.check_meaning.specs.Tests.{Passes, Fails, reads, equal, not-below, not-fails, fails-unless, or-fails}
 use Rattle.check_meaning.specs.Accepted as Accepted
 use Rattle.check_meaning.specs.Accepted.{OnGrid, markedEnds}
 use Rattle.check_meaning.specs.Vertices.{rule4-holds}
 use Rattle.check_meaning.specs.Faces.{rule7-holds, rule8-holds}
-use Rattle.build_marks.specs.Marking.{plainPlace, plainVertex, plainPiece, plainPoint, rightedPiece, markedPiece, plainRecord}
+use Rattle.check_meaning.specs.Inside.{some-hangs}
+use Rattle.build_marks.specs.Marking.{plainPlace, plainVertex, plainPiece, plainPoint, rightedPiece, markedPiece}
 use Rattle.build_service.specs.Build.{notWhole, plainHeader, plainBytes, badGivenPieces}
-use Rattle.build_meaning.specs.Righted.{sixfold-four, slotGiven, slot-small, slot-twice, given-corner, righted-sixfold}
-use Rattle.build_meaning.specs.Written.{Given, CountsFit, written, stored-corner, plain-length, header-read, vertex-read, record-read}
-use Rattle.build_meaning.specs.Accepts.{given-holds}
+use Rattle.build_meaning.specs.Righted.{sixfold-four, slotGiven, slot-small, slot-twice, given-corner, righted-sixfold, righted-closed}
+use Rattle.build_meaning.specs.Written.{Given, CountsFit, written, plain-length, header-read, vertex-read}
+use Rattle.build_meaning.specs.Records.{RightGiven, given-holds, stored-piece, stored-point, right-record, right-hand}
 use Rattle.build_meaning.specs.Shared.{shared-face-one-mark}
-use Rattle.demands_words.specs.Words.{BaseMesh, pointAt, BaseCornerOf, OnBaseFace, SameBaseCorners, SameBaseFace, plainBase, builtBase, Whole, CountsWithin, RightPlaces, RightPieces, RightTogether, AllUsed, Roomy}
-use Rattle.demands_proofs.specs.Turned.{Turned, turned-back, pieces-turned, together-turned, used-turned}
+use Rattle.demands_words.specs.Words.{BaseMesh, pointAt, BaseCornerOf, OnBaseFace, SameBaseCorners, SameBaseFace, plainBase, builtBase, Whole, CountsWithin, RightPlaces, RightPieces, RightTogether, AllUsed, NoVertexHangs, SomeVertexHangs, Roomy}
+use Rattle.demands_proofs.specs.Turned.{Turned, turned-back, pieces-turned, together-turned, used-turned, some-turned}
 
 -- ---- 21 and 3: the lists' lengths
 
@@ -78,16 +80,24 @@ built-turned coordinates corners =
     record {
       vertices = refl;
       pieces = refl;
+      place = λ v. refl;
       slot = λ r. slotGiven coordinates (plainPiece corners r);
       small = λ r. slot-small coordinates (plainPiece corners r);
       twice = λ r. slot-twice coordinates (plainPiece corners r);
       corner = λ r k l. sym (listed-corner corners r k l) ∙ given-corner coordinates (plainPiece corners r) k l;
       sixfold = λ r. listed-sixfold coordinates corners r ∙ sym (righted-sixfold coordinates (plainPiece corners r));
+      closed = λ r p.
+          let (there, back) = righted-closed coordinates (plainPiece corners r) p in
+          (λ mean. back (mean-four _ _ (λ k l. sym (listed-point coordinates corners r k l)) p mean), λ mean. mean-four _ _ (listed-point coordinates corners r) p (there mean));
     }
   where
+    listed-point : (coordinates : List ℤ) (corners : List ℕ) (r k : ℕ) → k < 4 →
+        plainPoint coordinates (plainPiece corners r) k ≡ pointAt (plainBase coordinates corners) (plainBase coordinates corners .cornerAt r k)
+    listed-point coordinates corners r k l = ap (λ (v : ℕ). pointOf (plainPlace coordinates v)) (listed-corner corners r k l)
+
     listed-sixfold : (coordinates : List ℤ) (corners : List ℕ) (r : ℕ) →
         sixfoldOf (λ k. pointAt (plainBase coordinates corners) (plainBase coordinates corners .cornerAt r k)) ≡ sixfoldOf (plainPoint coordinates (plainPiece corners r))
-    listed-sixfold coordinates corners r = sixfold-four _ _ (λ k l. ap (λ (v : ℕ). pointOf (plainPlace coordinates v)) (sym (listed-corner corners r k l)))
+    listed-sixfold coordinates corners r = sixfold-four _ _ (λ k l. sym (listed-point coordinates corners r k l))
 
 -- A piece with the corners of piece r has its corners and its faces.
 module _ (b : BaseMesh) where
@@ -203,19 +213,18 @@ module _ (job : ℕ) (coordinates : List ℤ) (corners : List ℕ) (g : Given jo
       volume : (r : ℕ) → sixfoldOf (plainPoint coordinates (plainPiece corners r)) ≡ sixfoldOf (λ k. pointAt b (b .cornerAt r k))
       volume r = sixfold-four _ _ (λ k l. ap (λ (v : ℕ). pointOf (plainPlace coordinates v)) (listed-corner corners r k l))
 
-  -- ---- 7 and 8
+  -- ---- 7, 8 and 23
 
   module _ (a : RightPieces b) where
     right-built : RightPieces built
     right-built = pieces-turned (built-turned coordinates corners) a
 
-    -- No corner is 65,535, which would be read as none, and check reads the built pieces.
-    corner-named : (r : ℕ) → r < b .pieces → (k : ℕ) → getD (plainRecord coordinates corners r .piece .corners) k 0 < storedNone
-    corner-named r l = stored-corner coordinates corners r (λ x. x < storedNone) (omega arith) (λ k s. omega (arith, listed-corner corners r k s, a r l .in-base k s, c .most-vertices))
+    right-given : RightGiven coordinates corners
+    right-given = given-holds coordinates corners .0 (pieces-exactly .1 a)
 
+    -- Check reads the built pieces.
     piece-read : (r : ℕ) → r < b .pieces → pieceAt m r ≡ markedPiece coordinates (rightedPiece coordinates (plainPiece corners r))
-    unfolding plainRecord
-    piece-read r l = ap (λ (x : Record). x .piece) (record-read job coordinates corners g fit corner-named r l)
+    piece-read r l = stored-piece job coordinates corners g fit right-given r (omega (arith, base-records))
 
     agrees : (r : ℕ) → r < b .pieces → Agrees built (pieceAt m r) r
     unfolding markedPiece
@@ -275,12 +284,45 @@ module _ (job : ℕ) (coordinates : List ℤ) (corners : List ℕ) (g : Given jo
         let (r, h, x) = u v (omega (arith, base-vertices)) in
         (r, omega (arith, base-records), corner-of built (pieceAt m r) r (agrees r h) v .1 x))
 
-    -- 7 and 8 "don't see the exchange".
+    built-hangs : Passes (hangingVertices m) (SomeVertexHangs built)
+    built-hangs =
+        reads (some-hangs m (right-record job coordinates corners g fit right-given) (right-hand job coordinates corners g fit right-given))
+        (λ (r, hr, v, hv, x).
+        let lr : r < b .pieces = omega (arith, base-records) in
+        let lv : v < b .vertices = omega (arith, base-vertices) in (
+          v,
+          r,
+          lv,
+          lr,
+          record {
+            lies-in = mean-four _ _ (stored-point job coordinates corners g fit right-given r hr) (pointAt b v) (subst (WeightedMean (cornerPoint (m .vertexAt) (pieceAt m r))) (point v lv) (x .lies-in));
+            no-corner = λ y. x .no-corner (corner-of built (pieceAt m r) r (agrees r lr) v .1 y);
+          },
+        ))
+        (λ (v, r, lv, lr, x).
+        let hr : r < baseRecords m = omega (arith, base-records) in (
+          r,
+          hr,
+          v,
+          omega (arith, base-vertices),
+          record {
+            lies-in = subst (WeightedMean (cornerPoint (m .vertexAt) (pieceAt m r))) (sym (point v lv)) (mean-four _ _ (λ k s. sym (stored-point job coordinates corners g fit right-given r hr k s)) (pointAt b v) (x .lies-in));
+            no-corner = λ y. x .no-corner (corner-of built (pieceAt m r) r (agrees r lr) v .0 y);
+          },
+        ))
+
+    -- "7, 8 and 23 don't see the exchange."
     pub together-exactly : Fails (badBaseFaces m) (RightTogether b)
     together-exactly = let t = built-turned coordinates corners in reads built-together (together-turned (turned-back t)) (together-turned t)
 
     pub used-exactly : Fails (unusedVertices m) (AllUsed b)
     used-exactly = let t = built-turned coordinates corners in reads built-used (used-turned (turned-back t)) (used-turned t)
+
+    pub hangs-exactly : Passes (hangingVertices m) (SomeVertexHangs b)
+    hangs-exactly = let t = built-turned coordinates corners in reads built-hangs (some-turned (turned-back t)) (some-turned t)
+
+    pub none-exactly : Fails (hangingVertices m) (NoVertexHangs b)
+    none-exactly = reads (fails-unless hangs-exactly) (λ none v r lv lr x. none (v, r, lv, lr, x)) (λ none (v, r, lv, lr, x). none v r lv lr x)
 
   -- ---- 20
 

@@ -1,31 +1,40 @@
 -- Two base meshes that differ in the order of their pieces' corners alone: what is asked of corners and faces as sets holds of both or of neither.
 -- Assumes nothing.
 use mathlib.Core.Path.{_≡_, sym, ap, _∙_, subst}
+use mathlib.Core.Logic.{_↔_}
 use Prim.Native.Nat.{ℕ, _<_}
 use native.Mathlib.Omega.{arith}
+use Rattle.grid.specs.declared.Place.{Place}
+use Rattle.grid.specs.Places.{Point, pointOf}
 use Rattle.grid_volume.specs.Volume.{sixfoldOf}
-use Rattle.demands_words.specs.Words.{BaseMesh, pointAt, BaseCornerOf, OnBaseFace, SameBaseCorners, SameBaseFace, RightPieces, RightTogether, AllUsed}
+use Rattle.grid_inside.specs.Weights.{WeightedMean}
+use Rattle.demands_words.specs.Words.{BaseMesh, pointAt, BaseCornerOf, OnBaseFace, SameBaseCorners, SameBaseFace, RightPieces, RightTogether, AllUsed, HangsOn, NoVertexHangs, SomeVertexHangs}
 
 -- Slot k of piece r in one is slot `slot r k` in the other, and back.
 pub record Turned (b b′ : BaseMesh) : Type 0 where
   pub vertices : b .vertices ≡ b′ .vertices
   pub pieces : b .pieces ≡ b′ .pieces
+  pub place : (v : ℕ) → b .placeAt v ≡ b′ .placeAt v
   pub slot : ℕ → ℕ → ℕ
   pub small : (r k : ℕ) → k < 4 → slot r k < 4
   pub twice : (r k : ℕ) → k < 4 → slot r (slot r k) ≡ k
   pub corner : (r k : ℕ) → k < 4 → b .cornerAt r k ≡ b′ .cornerAt r (slot r k)
   pub sixfold : (r : ℕ) → sixfoldOf (λ k. pointAt b (b .cornerAt r k)) ≡ sixfoldOf (λ k. pointAt b′ (b′ .cornerAt r k))
+  -- the same points lie in the closed piece
+  pub closed : (r : ℕ) (p : Point) → WeightedMean (λ k. pointAt b (b .cornerAt r k)) p ↔ WeightedMean (λ k. pointAt b′ (b′ .cornerAt r k)) p
 
 pub turned-back : {b b′ : BaseMesh} → Turned b b′ → Turned b′ b
 turned-back {b} {b′} t =
     record {
       vertices = sym (t .vertices);
       pieces = sym (t .pieces);
+      place = λ v. sym (t .place v);
       slot = t .slot;
       small = t .small;
       twice = t .twice;
       corner = λ r k l. ap (b′ .cornerAt r) (sym (t .twice r k l)) ∙ sym (t .corner r (t .slot r k) (t .small r k l));
       sixfold = λ r. sym (t .sixfold r);
+      closed = λ r p. let (there, back) = t .closed r p in (back, there);
     }
 
 -- ---- corners and faces
@@ -82,3 +91,16 @@ module _ {b b′ : BaseMesh} (t : Turned b b′) where
   used-turned a v l =
       let (r, h, x) = a v (omega (arith, t .vertices)) in
       (r, omega (arith, t .pieces), corner-turned t r v x)
+
+  hangs-turned : (v r : ℕ) → HangsOn b v r → HangsOn b′ v r
+  hangs-turned v r x =
+      record {
+        lies-in = subst (λ (p : Place). WeightedMean (λ k. pointAt b′ (b′ .cornerAt r k)) (pointOf p)) (t .place v) (t .closed r (pointAt b v) .0 (x .lies-in));
+        no-corner = λ c. x .no-corner (corner-turned (turned-back t) r v c);
+      }
+
+  pub some-turned : SomeVertexHangs b → SomeVertexHangs b′
+  some-turned (v, r, lv, lr, x) = (v, r, omega (arith, t .vertices), omega (arith, t .pieces), hangs-turned v r x)
+
+pub none-turned : {b b′ : BaseMesh} → Turned b b′ → NoVertexHangs b → NoVertexHangs b′
+none-turned t a v r lv lr x = let (v, r, lv, lr, x) = some-turned (turned-back t) (v, r, lv, lr, x) in a v r lv lr x

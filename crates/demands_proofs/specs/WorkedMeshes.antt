@@ -122,11 +122,11 @@ pub first-counted : countIn first-named ≡ 1
 unfolding refine-computed
 first-counted = refl
 
-abbrev small : List ℕ → Bool
+abbrev pub small : List ℕ → Bool
 small [] = true
 small (x ∷ rest) = ltb x 256 && small rest
 
-small-bytes : (l : List ℕ) → small l ≡ true → Bytes l
+pub small-bytes : (l : List ℕ) → small l ≡ true → Bytes l
 small-bytes [] t = bytes-none
 small-bytes (x ∷ rest) t = bytes-cons (ltb-true x 256 (and-left (ltb x 256) (small rest) t)) (small-bytes rest (and-right (ltb x 256) (small rest) t))
 

@@ -11,7 +11,7 @@
 --   (`cuts/specs/Sets`). `CutList`, `LeafList`, `MadeList`: a list of all cuts, leaves, made vertices, each once (`cuts/specs/Count`).
 -- - `OnGrid`: a multiple of 32 from -32,736 to 32,736; `EdgeOf i e`: e is an edge of the face without slot i (`check_meaning/specs/Accepted`). `Midpoint`: its
 --   double is the sum, in each coordinate (`grid/specs/Corners`); `signedOf`: the determinant of corners 1, 2, 3 less corner 0, and `sixfoldOf`: its absolute value
---   (`grid_volume/specs/Volume`) (on demand 3's page `markedAt`: a
+--   (`grid_volume/specs/Volume`); `WeightedMean`: a point is a weighted mean of four corners, with weights that are not negative (`grid_inside/specs/Weights`) (on demand 3's page `markedAt`: a
 --   face's mark, named by its midpoint, and `SameFace`: the same three corners, over names; `cuts_names/specs/Base`).
 -- - `meshBytes`, `selectionOf`, `namedIn`: document 01's layout of a mesh's and a selection's bytes (`stored/specs/Layout`).
 use mathlib.Core.Path.{_≡_}
@@ -30,6 +30,7 @@ use Rattle.piece.specs.Shape.{Shape, mark, lastGeneration, shapeOf}
 use Rattle.grid.specs.declared.Place.{Place}
 use Rattle.grid.specs.Places.{Point, pointOf, halfwayOf}
 use Rattle.grid_volume.specs.Volume.{signedOf, leftHanded, sixfoldOf}
+use Rattle.grid_inside.specs.Weights.{WeightedMean}
 use Rattle.check_meaning.specs.Accepted.{OnGrid, EdgeOf}
 use Rattle.cuts_names.specs.Names as Names
 use Rattle.cuts_names.specs.Names.{Name, mid}
@@ -48,9 +49,9 @@ use Rattle.build_marks.specs.Marking.{plainPlace, plainPiece, rightedPiece, mar
 
 -- ======== demand 1: the numbers of check's refusals, in the order in which they are tried
 
--- "1 to 10", and document 02's 22 "after 5 and before 6".
+-- "1 to 10", and document 02's 22 "after 5 and before 6" and 23 "after 8 and before 9".
 abbrev pub checkNumbers : List ℕ
-checkNumbers = 1 ∷ 2 ∷ 3 ∷ 4 ∷ 5 ∷ 22 ∷ 6 ∷ 7 ∷ 8 ∷ 9 ∷ 10 ∷ []
+checkNumbers = 1 ∷ 2 ∷ 3 ∷ 4 ∷ 5 ∷ 22 ∷ 6 ∷ 7 ∷ 8 ∷ 23 ∷ 9 ∷ 10 ∷ []
 
 -- ======== demand 2: a base mesh, properly marked
 
@@ -110,6 +111,15 @@ pub record RightPiece (b : BaseMesh) (r : ℕ) : Type 0 where
   pub marked : ValidlyMarked (b .shapeAt r)
   pub flag : b .shapeAt r .flag ≡ 0
 
+-- Document 02: "a vertex hang[s] on a piece if it lies in the closed piece and isn't one of its corners": vertex v on piece r. The closed piece is all weighted means of its
+-- corners: its inside, its faces and its edges.
+pub record HangsOn (b : BaseMesh) (v r : ℕ) : Type 0 where
+  pub lies-in : WeightedMean (λ k. pointAt b (b .cornerAt r k)) (pointAt b v)
+  pub no-corner : BaseCornerOf b r v → ⊥
+
+abbrev pub NoVertexHangs : BaseMesh → Type 0
+NoVertexHangs b = (v r : ℕ) → v < b .vertices → r < b .pieces → HangsOn b v r → ⊥
+
 pub record ProperlyMarked (b : BaseMesh) : Type 0 where
   -- "at least 4 base vertices and 1 base record"
   pub some-vertices : 4 ≤ b .vertices
@@ -121,6 +131,8 @@ pub record ProperlyMarked (b : BaseMesh) : Type 0 where
   pub pieces : (r : ℕ) → r < b .pieces → RightPiece b r
   -- every vertex is a corner
   pub used : (v : ℕ) → v < b .vertices → (r : ℕ) × (r < b .pieces) × BaseCornerOf b r v
+  -- no vertex hangs on a piece
+  pub no-vertex-hangs : NoVertexHangs b
   -- no face is in three pieces
   pub in-two : (r s n i j k : ℕ) → r < s → s < n → n < b .pieces → i < 4 → j < 4 → k < 4 → SameBaseFace b r i n k → SameBaseFace b s j n k → ⊥
   -- no two pieces have the same corners
@@ -422,6 +434,11 @@ pub record RightTogether (b : BaseMesh) : Type 0 where
 abbrev pub AllUsed : BaseMesh → Type 0
 AllUsed b = (v : ℕ) → v < b .vertices → (r : ℕ) × (r < b .pieces) × BaseCornerOf b r v
 
+-- ---- 23: not "a vertex [that] lies in the closed piece and isn't one of its corners" (document 02): `NoVertexHangs`. Where it is given, some vertex does.
+
+abbrev pub SomeVertexHangs : BaseMesh → Type 0
+SomeVertexHangs b = (v r : ℕ) × (v < b .vertices) × (r < b .pieces) × HangsOn b v r
+
 -- ---- 20: not "the output buffer is shorter than the result"
 
 -- The result has "20 + 10·vertices + 17·records" bytes.
@@ -441,7 +458,7 @@ pub record ArgumentTypes (job : ℕ) (coordinates : List ℤ) (corners : List �
   pub i16-coordinates : (k : ℕ) → k < length coordinates → I16 (getD coordinates k (pos 0))
   pub u16-corners : (k : ℕ) → k < length corners → U16 (getD corners k 0)
 
--- What build asks, in the order in which it tries: "21, then 3, 4, 5, 7, 8, 20".
+-- What build asks, in the order in which it tries: "21, then 3, 4, 5, 7, 8, 20", and document 02's 23 "before 20".
 pub record BuildAccepts (coordinates : List ℤ) (corners : List ℕ) (room : ℕ) : Type 0 where
   pub whole : Whole coordinates corners
   pub counts : CountsWithin (plainBase coordinates corners)
@@ -449,6 +466,7 @@ pub record BuildAccepts (coordinates : List ℤ) (corners : List ℕ) (room : �
   pub pieces : RightPieces (plainBase coordinates corners)
   pub together : RightTogether (plainBase coordinates corners)
   pub used : AllUsed (plainBase coordinates corners)
+  pub no-vertex-hangs : NoVertexHangs (plainBase coordinates corners)
   pub roomy : Roomy (plainBase coordinates corners) room
 
 -- The set in which nothing is cut.

@@ -3,4 +3,5 @@ pub mod Inside
 pub mod Formal
 pub mod Parts
 pub mod Weights
+pub mod Corners
 pub mod Box

@@ -10,9 +10,9 @@ use lib.IntN.{_+ℤ_, _*ℤ_}
 use Rattle.algebra.specs.Solver.{Expression, plus, times, agree, solve, valueOf, valuesIn}
 use Rattle.grid.specs.Places.{Point}
 use Rattle.grid_volume.specs.Volume.{signedOf, minorOf, determinantOf, differenceOf, differencesOf}
-use Rattle.grid_volume.specs.Formal.{Formal, formalDeterminant}
+use Rattle.grid_volume.specs.Formal.{Formal, own, formalDeterminant}
 use Rattle.grid_inside.specs.Inside.{partOf}
-use Rattle.grid_inside.specs.Formal.{given, own, formalPart, valuesOf}
+use Rattle.grid_inside.specs.Formal.{given, formalPart, valuesOf}
 
 -- D = D0 + D1 + D2 + D3
 pub parts-sum : (corner : ℕ → Point) (v : Point) →

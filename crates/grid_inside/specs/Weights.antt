@@ -15,9 +15,9 @@ use Rattle.laws.specs.Below.{putAt, all-at, all-of}
 use Rattle.algebra.specs.Solver.{Expression, variable, plus, minus, times, agree, solve, valueOf, valuesIn}
 use Rattle.grid.specs.Places.{Point}
 use Rattle.grid_volume.specs.Volume.{signedOf, isNegative, leftHanded, determinantOf, minorOf, differencesOf, differenceOf}
-use Rattle.grid_volume.specs.Formal.{Formal, pointAt, formalDeterminant}
+use Rattle.grid_volume.specs.Formal.{Formal, pointAt, own, no-slot, formalDeterminant}
 use Rattle.grid_inside.specs.Inside.{partOf, liesIn}
-use Rattle.grid_inside.specs.Formal.{given, own, formalPart, valuesOf, part-is, no-slot}
+use Rattle.grid_inside.specs.Formal.{given, formalPart, valuesOf, part-is}
 use Rattle.grid_inside.specs.Parts.{parts-sum, parts-mean-x, parts-mean-y, parts-mean-z}
 
 -- v is a weighted mean of the corners, with weights that are not negative and not all 0

@@ -2,10 +2,12 @@
 -- Assumes nothing.
 use mathlib.Core.Path.{_≡_, refl}
 use mathlib.Core.List.{List}
-use Prim.Native.Nat.{ℕ, _<_}
-use lib.Dec.{lit<}
+use mathlib.Core.Bool.{cond}
+use Prim.Native.Nat.{ℕ, suc, _+_, _*_, _<_}
+use native.Mathlib.Omega.{arith}
+use lib.Dec.{eqb, lit<}
 use lib.IntN.{ℤ}
-use Rattle.algebra.specs.Solver.{Expression, plus, minus, times, valueOf, valuesIn}
+use Rattle.algebra.specs.Solver.{Expression, variable, plus, minus, times, valueOf, valuesIn}
 use Rattle.grid.specs.Places.{Point}
 use Rattle.grid_volume.specs.Volume.{minorOf, determinantOf, differenceOf, differencesOf, cornersOf}
 
@@ -16,6 +18,17 @@ pub record Formal : Type 0 where
 
 abbrev pub pointAt : List ℤ → Formal → Point
 pointAt zs p = record { x = valueOf (valuesIn zs) (p .x); y = valueOf (valuesIn zs) (p .y); z = valueOf (valuesIn zs) (p .z) }
+
+-- The corner in slot k as variables, after those of one other point; and a point put into slot i.
+abbrev pub own : ℕ → Formal
+own k = record { x = variable (3 * k + 3); y = variable (3 * k + 4); z = variable (3 * k + 5) }
+
+abbrev pub put : ℕ → Formal → (ℕ → Formal) → ℕ → Formal
+put i p corner k = cond (eqb k i) p (corner k)
+
+-- There are four slots.
+pub no-slot : (k : ℕ) → suc (suc (suc (suc k))) < 4 → ⊥
+no-slot k h = omega arith
 
 -- `minorOf` and `determinantOf` of the differences to p, over expressions
 abbrev formalMinor : Expression → Expression → Expression → Expression → Expression

@@ -4,7 +4,6 @@ use mathlib.Core.Path.{_≡_, refl, sym, _∙_, ap}
 use mathlib.Core.Bool.{Bool, true, false, cond, _&&_}
 use mathlib.Core.List.{List, [], _∷_}
 use Prim.Native.Nat.{ℕ, zero, suc, _+_, _*_, _<_}
-use native.Mathlib.Omega.{arith}
 use mathlib.Core.Logic.{_≢_}
 use lib.Dec.{T, eqb, eqb→eq}
 use lib.IntN.{ℤ, pos, negℤ, _+ℤ_, _-ℤ_, _*ℤ_, +ℤ-idl}
@@ -14,7 +13,7 @@ use Rattle.grid.specs.Places.{Point}
 use Rattle.grid_volume.specs.Volume.{determinantOf, differencesOf}
 use Rattle.laws.specs.Below.{putAt}
 use Rattle.grid.specs.Corners.{exchanged, Midpoint}
-use Rattle.grid_volume.specs.Formal.{Formal, pointAt, formalDeterminant, formal-is, same-corners}
+use Rattle.grid_volume.specs.Formal.{Formal, pointAt, own, put, no-slot, formalDeterminant, formal-is, same-corners}
 
 -- ---- a test at every pair of different slots
 
@@ -23,9 +22,6 @@ everySlot P = P 0 && (P 1 && (P 2 && P 3))
 
 abbrev pub everyPair : (ℕ → ℕ → Bool) → Bool
 everyPair P = everySlot (λ i. everySlot (λ j. let apart = P i j in cond (eqb i j) true apart))
-
-no-slot : (i : ℕ) → suc (suc (suc (suc i))) < 4 → ⊥
-no-slot i h = omega arith
 
 at-slot : (P : ℕ → Bool) → T (everySlot P) → (i : ℕ) → i < 4 → T (P i)
 at-slot P t zero h = and-yes (P 0) (P 1 && (P 2 && P 3)) t .0
@@ -47,12 +43,6 @@ at-pair P t i j h k n =
 
 abbrev midpoint : Formal
 midpoint = record { x = variable 0; y = variable 1; z = variable 2 }
-
-abbrev own : ℕ → Formal
-own k = record { x = variable (3 * k + 3); y = variable (3 * k + 4); z = variable (3 * k + 5) }
-
-abbrev put : ℕ → Formal → (ℕ → Formal) → ℕ → Formal
-put i p corner k = cond (eqb k i) p (corner k)
 
 -- slot j has what makes the midpoint stand halfway between slots i and j
 abbrev other : Formal → Formal

@@ -2,7 +2,7 @@
 -- number one more than the last one before it with the same key; 0 stands where there is none. What is found along them is what a search through all
 -- would find.
 use mathlib.Core.Path.{_≡_, refl, sym, ap, _∙_, subst}
-use mathlib.Core.Bool.{Bool, true, false, cond, _&&_, _||_}
+use mathlib.Core.Bool.{Bool, true, false, false≢true, cond, _&&_, _||_}
 use mathlib.Core.Logic.{⊎-elim, _≢_}
 use mathlib.Core.List.{List}
 use Prim.Native.Nat.{ℕ, zero, suc, _+_, _-_, _≤_, _<_}
@@ -12,8 +12,8 @@ use lib.ListN.{length, getD, set, replicate, length-set, length-replicate, getD-
 use lib.Seq.{getD-set-same, getD-set-other}
 use lib.Dec.{eqb, leb, ltb}
 use lib.Bits.{bitAnd, and-le-r}
-use borrow.Author.Tests.{eqb-true, eqb-false, ne-eqb, le-leb, leb-true, ltb-true, ltb-false, lt-ltb, le-ltb}
-use Rattle.laws.specs.Below.{anyBelow, any-none, any-suc, any-fails, any-fails-at, any-is, any-where, firstBelow, first-no, first-is, first-where, bit, and-false, or-left-false, or-right-false, either}
+use borrow.Author.Tests.{eqb-true, eq-eqb, eqb-false, ne-eqb, le-leb, leb-true, ltb-true, ltb-false, lt-ltb, le-ltb}
+use Rattle.laws.specs.Below.{anyBelow, any-none, any-suc, any-fails, any-fails-at, any-is, any-where, firstBelow, first-no, first-is, first-where, bit, and-left, and-right, and-false, or-left-false, or-right-false, either}
 
 -- The greatest number that an entry of such a list holds.
 abbrev pub greatest : ℕ
@@ -550,6 +550,56 @@ module _ (key : ℕ → ℕ) (n : ℕ) (heads nexts : List ℕ) (c : Chain key n
       rw head-is (first-from (lastOf n) (lastOf n) n (le-refl (lastOf n)) (last-on n (le-refl n)))
       ∙ sym (first-gap P (lastOf n) n low-head (last-gap n (le-refl n)) n)
       ∙ ⊎-elim (λ t. rw t) (λ f. rw f (sym (first-no P n f))) (either (anyBelow n P))
+
+-- ---- where it holds along links
+
+or-either : (a b : Bool) → (a || b) ≡ true → (Q : Type 0) → (a ≡ true → Q) → (b ≡ true → Q) → Q
+or-either true b e Q f g = f refl
+or-either false b e Q f g = g e
+
+or-by-first : (a b : Bool) → a ≡ true → (a || b) ≡ true
+or-by-first a b e = rw e
+
+or-by-second : (a b : Bool) → b ≡ true → (a || b) ≡ true
+or-by-second true b e = refl
+or-by-second false b e = e
+
+module _ (nexts : List ℕ) (P : ℕ → Bool) where
+  along-where : (bound m : ℕ) → m ≤ bound → anyAlong nexts P m ≡ true → (u : ℕ) × (P u ≡ true)
+  along-where zero zero l e = absurd (false≢true (sym (any-along-none nexts P) ∙ e))
+  along-where zero (suc u) l e = absurd (omega arith)
+  along-where (suc bound) zero l e = absurd (false≢true (sym (any-along-none nexts P) ∙ e))
+  along-where (suc bound) (suc u) l e =
+      or-either (P u) (anyAlong nexts P (linkAt nexts u)) (sym (any-along-on nexts P u) ∙ e) ((u : ℕ) × (P u ≡ true))
+      (λ here. (u, here))
+      (λ later. along-where bound (linkAt nexts u) (omega (arith, link-down nexts u)) later)
+
+  along-more : (Q : ℕ → Bool) → ((u : ℕ) → P u ≡ true → Q u ≡ true) → (bound m : ℕ) → m ≤ bound → anyAlong nexts P m ≡ true → anyAlong nexts Q m ≡ true
+  along-more Q more zero zero l e = absurd (false≢true (sym (any-along-none nexts P) ∙ e))
+  along-more Q more zero (suc u) l e = absurd (omega arith)
+  along-more Q more (suc bound) zero l e = absurd (false≢true (sym (any-along-none nexts P) ∙ e))
+  along-more Q more (suc bound) (suc u) l e =
+      any-along-on nexts Q u
+      ∙ or-either (P u) (anyAlong nexts P (linkAt nexts u)) (sym (any-along-on nexts P u) ∙ e) ((Q u || anyAlong nexts Q (linkAt nexts u)) ≡ true)
+      (λ here. or-by-first (Q u) _ (more u here))
+      (λ later. or-by-second (Q u) _ (along-more Q more bound (linkAt nexts u) (omega (arith, link-down nexts u)) later))
+
+-- Where it holds, it holds at a number; and what implies it holds along the same links.
+pub any-along-where : (nexts : List ℕ) (P : ℕ → Bool) (m : ℕ) → anyAlong nexts P m ≡ true → (u : ℕ) × (P u ≡ true)
+any-along-where nexts P m = along-where nexts P m m (le-refl m)
+
+pub any-along-more : (nexts : List ℕ) (P Q : ℕ → Bool) → ((u : ℕ) → P u ≡ true → Q u ≡ true) → (m : ℕ) → anyAlong nexts P m ≡ true → anyAlong nexts Q m ≡ true
+any-along-more nexts P Q more m = along-more nexts P Q more m m (le-refl m)
+
+-- What has a key is found from its head on.
+pub chain-finds : (key : ℕ → ℕ) (n : ℕ) (heads nexts : List ℕ) → Chain key n heads nexts → (P : ℕ → Bool) (v : ℕ) → v < n → key v < length heads → P v ≡ true →
+    anyAlong nexts P (getD heads (key v) 0) ≡ true
+chain-finds key n heads nexts c P v l within here =
+    let k = key v in
+    let Q : ℕ → Bool = λ u. eqb (key u) k && P u in
+    any-along-more nexts Q P (λ u e. and-right (eqb (key u) k) (P u) e) (getD heads k 0)
+    (chain-any key n heads nexts c Q k within (λ u b e. eqb-true (key u) k (and-left (eqb (key u) k) (P u) e))
+    ∙ any-is Q n v l (rw (eq-eqb k k refl) here))
 
 -- ---- counts
 

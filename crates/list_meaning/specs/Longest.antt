@@ -43,7 +43,7 @@ module _ (s : List ℕ) where
   unfolding tablesOf
   few-records e = accepted-bounded s e .records
 
-  number-small : checkOf s .number ≤ 22
+  number-small : checkOf s .number ≤ 23
   number-small = omega (arith, report-number s, check-small s)
 
   -- Check has no 20.

@@ -13,16 +13,18 @@ use Rattle.check_refusals.specs.declared.Report.{Report}
 use Rattle.mesh_tables.specs.Tables.{tablesOf, allRecords}
 use Rattle.check_refusals.specs.Check.{CheckOutcomeIs}
 use Rattle.check_refusals.specs.Rows.{report-number}
+use Rattle.check_meaning.specs.Accepted as Tables
 use Rattle.check_meaning.specs.Accepted.{Cut, firstChild}
 use Rattle.check_meaning.specs.Volumes.{signed}
 use Rattle.build_service.specs.Build.{plainBytes, BuildOutcomeIs}
 use Rattle.refine_service.specs.Refine.{RefineOutcomeIs}
 use Rattle.list_service.specs.declared.Listed.{Listed}
 use Rattle.list_service.specs.Listing.{ListOutcomeIs}
-use Rattle.demands_words.specs.Words.{I16, fullSize, StoredMesh, Figures, ArgumentTypes, plainBase, builtBase, AsGiven, BuildAccepts, BuiltMesh, RightSelectionLength, RightSelectionMark, GoodFor}
+use Rattle.demands_words.specs.Words.{I16, fullSize, StoredMesh, Figures, ArgumentTypes, plainBase, builtBase, AsGiven, SomeVertexHangs, BuildAccepts, BuiltMesh, RightSelectionLength, RightSelectionMark, GoodFor}
 use Rattle.demands.specs.Demand1.{CheckOutcome, BuildOutcome, RefineOutcome, ListOutcome, check-outcome, build-outcome, refine-outcome, list-outcome}
 use Rattle.demands.specs.Demand2.{ClosedFits, closedBytes, demand-2}
 use Rattle.demands.specs.Demand3.{LeastOrFullFrom, demand-3, another-job, another-round, accepted-good}
+use Rattle.demands.specs.Hanging.{no-vertex-hangs, vertex-hangs, build-vertex-hangs}
 use Rattle.demands.specs.Handed.{records-right-handed, records-halved, built-as-given}
 use Rattle.face_to_face.specs.Words.{FaceToFace}
 use Rattle.face_to_face.specs.FaceToFace.{Meets, face-to-face, built-meets, refined-meets}
@@ -35,6 +37,9 @@ pub record CheckPromise (mesh : List ℕ) (r : Report) : Type 0 where
   -- demand 2
   pub exactly : (r .number ≡ 0) ↔ StoredMesh mesh
   pub figures : (x : StoredMesh mesh) → Figures (x .base) (x .cuts) (r .leaves) (r .deepest) (r .sixfold)
+  -- request two: no base vertex "lies in the closed piece and isn't one of its corners"; and where 23 is given, one does
+  pub no-vertex-hangs : r .number ≡ 0 → Tables.NoVertexHangs (tablesOf mesh)
+  pub vertex-hangs : r .number ≡ 23 → Tables.SomeVertexHangs (tablesOf mesh)
   -- request three: "a child's signed value is exactly half of its parent's", and every record is right-handed
   pub right-handed : r .number ≡ 0 → (n : ℕ) → n < allRecords (tablesOf mesh) → pos 0 <ℤ signed (tablesOf mesh) n
   pub halved : r .number ≡ 0 → let m = tablesOf mesh in (n : ℕ) → n < allRecords m → Cut m n →
@@ -50,6 +55,8 @@ check-promised mesh r bytes is =
       outcome = check-outcome mesh;
       exactly = (λ e. both .0 (bytes, e), λ x. both .1 x .1);
       figures = demand-2 .figures mesh;
+      no-vertex-hangs = λ e. no-vertex-hangs mesh (sym (report-number mesh) ∙ e);
+      vertex-hangs = λ e. vertex-hangs mesh (sym (report-number mesh) ∙ e);
       right-handed = λ e. records-right-handed mesh (sym (report-number mesh) ∙ e);
       halved = λ e. records-halved mesh (sym (report-number mesh) ∙ e);
       meets = λ e. face-to-face mesh (sym (report-number mesh) ∙ e);
@@ -68,6 +75,8 @@ pub record BuildPromise (job : ℕ) (coordinates : List ℤ) (corners : List ℕ
   pub exactly : (number ≡ 0) ↔ BuildAccepts coordinates corners room
   pub stores : number ≡ 0 → BuiltMesh job coordinates corners out room
   pub marking : number ≡ 0 → out ≡ zeroPast room (plainBytes job coordinates corners)
+  -- request two: where 23 is given, a vertex hangs on a piece, as they are listed; none does where the lists are accepted (`BuildAccepts`)
+  pub vertex-hangs : number ≡ 23 → SomeVertexHangs (plainBase coordinates corners)
   -- request three: left-handed pieces have their last two corners exchanged, and the marked edges, as pairs of vertices, are those of the pieces as given
   pub as-given : number ≡ 0 → (r : ℕ) → r < plainBase coordinates corners .pieces → AsGiven (plainBase coordinates corners) (builtBase coordinates corners) r
   -- request thirteen
@@ -82,6 +91,7 @@ build-promised job coordinates corners room number out types is =
       exactly = demand-2 .build-accepts job coordinates corners types room;
       stores = demand-2 .build-stores job coordinates corners types room;
       marking = demand-2 .marking job coordinates corners types room;
+      vertex-hangs = build-vertex-hangs job coordinates corners types room;
       as-given = λ e. built-as-given coordinates corners room (demand-2 .build-accepts job coordinates corners types room .0 e);
       meets = built-meets job coordinates corners types room;
     })

@@ -14,11 +14,12 @@ use Rattle.piece.specs.Same.{sameSlot, sameSlots, samePiece}
 use Rattle.piece_cut.specs.Cut.{newMark, childFlag, childMark, childShape, childOf, cutOf}
 use Rattle.grid.specs.Places.{coordinate, coordinateOnGrid, onGrid, samePlace, isHalfway, halfwayOf}
 use Rattle.grid_volume.specs.Volume.{minorOf, determinantOf, differenceOf, differencesOf, leftHanded, sixfoldOf}
+use Rattle.grid_inside.specs.Inside.{liesIn}
 use Rattle.stored.specs.declared.Vertex.{Vertex}
 use Rattle.stored.specs.declared.Record.{Record}
 use Rattle.stored.specs.Layout.{none, marked, markBytes, rightMark, rightLength, headerOf, headerBytes, orNone, storedOrNone, heldIn, vertexIn, vertexFrom, vertexBytes, recordIn, recordFrom, recordBytes, meshBytes, rightSelectionMark, rightSelectionLength, selectionOf, selectionBytes, namedIn}
 use Rattle.mesh_tables.specs.Tables.{tablesOf, hasParents, vertexWith, hangs, sixfoldAt, hangsAt, leafHangs, hangingEdge}
-use Rattle.check_refusals.specs.Refusals.{wrongLength, wrongMark, wrongCounts, badVertices, badVertex, badBaseVertex, placeTwice, badMadeVertex, pairTwice, badBaseRecords, badBaseRecord, badPiece, badCorners, leftHandedRecords, leftHandedRecord, equalCorners, cornerNotInBase, badBaseMarks, badMarks, badBaseFaces, badFaces, badWith, badTogether, faceInThree, faceBefore, hasFace, sameFace, faceWithin, faceHas, sameCorners, cornersWithin, hasCorner, twoMarks, twoMarksOn, sameMark, sameEnds, unusedVertices, unusedVertex, badCuts, badRecord, badCut, badChildren, isChildOf, notChildOfOne, tooDeep, isMidpointOf, noMidpoint}
+use Rattle.check_refusals.specs.Refusals.{wrongLength, wrongMark, wrongCounts, badVertices, badVertex, badBaseVertex, placeTwice, badMadeVertex, pairTwice, badBaseRecords, badBaseRecord, badPiece, badCorners, leftHandedRecords, leftHandedRecord, equalCorners, cornerNotInBase, badBaseMarks, badMarks, badBaseFaces, badFaces, badWith, badTogether, faceInThree, faceBefore, hasFace, sameFace, faceWithin, faceHas, sameCorners, cornersWithin, hasCorner, twoMarks, twoMarksOn, sameMark, sameEnds, unusedVertices, unusedVertex, hangingVertices, vertexHangs, hangsOn, badCuts, badRecord, badCut, badChildren, isChildOf, notChildOfOne, tooDeep, isMidpointOf, noMidpoint}
 use Rattle.laws.specs.Order.{firstBroken}
 use Rattle.check_refusals.specs.Check.{tableRows, rows, leaves}
 use Rattle.refine_selection.specs.Selected.{wrongSelectionLength, wrongSelectionMark, anotherJob, anotherRound, badNumber, badNumbers, selectionRows, namesCut, namesLast, roundRow, isNamed}
@@ -104,5 +105,5 @@ selecting job round count named = selectionBytes (record { job = job; round = ro
 
 -- What refine's answers compute with, named in one place: to unfold this is to unfold them all.
 unfoldable pub computed : Bool
-unfolding leaves foldBelow allBelow anyBelow countBelow sumBelow firstBelow listBelow joined number numberBytes lowSlot highSlot hasSlot otherEnd joins edgeBetween onFace opposite oppositeOn shares sharedSlot slotA slotB slotC slotD edgeCD otherMarksAre typeP setP unsetP markFits lowerEnd higherEnd endsOf sameSlot sameSlots samePiece newMark childFlag childMark childShape childOf cutOf coordinate coordinateOnGrid onGrid samePlace isHalfway halfwayOf minorOf determinantOf differenceOf differencesOf sixfoldOf marked markBytes rightMark rightLength headerOf headerBytes orNone storedOrNone heldIn vertexIn vertexFrom vertexBytes recordIn recordFrom recordBytes meshBytes rightSelectionMark rightSelectionLength selectionOf selectionBytes namedIn tablesOf hasParents vertexWith hangs sixfoldAt wrongLength wrongMark wrongCounts badVertices badVertex badBaseVertex placeTwice badMadeVertex pairTwice badBaseRecords badBaseRecord badPiece badCorners leftHandedRecords leftHandedRecord leftHanded equalCorners cornerNotInBase badBaseMarks badMarks badBaseFaces badFaces badWith badTogether faceInThree faceBefore hasFace sameFace faceWithin faceHas sameCorners cornersWithin hasCorner twoMarks twoMarksOn sameMark sameEnds unusedVertices unusedVertex badCuts badRecord badCut badChildren isChildOf notChildOfOne tooDeep isMidpointOf noMidpoint hangsAt leafHangs hangingEdge tableRows rows firstBroken wrongSelectionLength wrongSelectionMark anotherJob anotherRound badNumber badNumbers selectionRows namesCut namesLast roundRow isNamed midpointOf withMidpoint withChildren cutAt exceeds turn passBelow pass closing refined closed resultOf refineSelectionRows resultRows refineNumber refineBytes
+unfolding leaves foldBelow allBelow anyBelow countBelow sumBelow firstBelow listBelow joined number numberBytes lowSlot highSlot hasSlot otherEnd joins edgeBetween onFace opposite oppositeOn shares sharedSlot slotA slotB slotC slotD edgeCD otherMarksAre typeP setP unsetP markFits lowerEnd higherEnd endsOf sameSlot sameSlots samePiece newMark childFlag childMark childShape childOf cutOf coordinate coordinateOnGrid onGrid samePlace isHalfway halfwayOf minorOf determinantOf differenceOf differencesOf sixfoldOf marked markBytes rightMark rightLength headerOf headerBytes orNone storedOrNone heldIn vertexIn vertexFrom vertexBytes recordIn recordFrom recordBytes meshBytes rightSelectionMark rightSelectionLength selectionOf selectionBytes namedIn tablesOf hasParents vertexWith hangs sixfoldAt wrongLength wrongMark wrongCounts badVertices badVertex badBaseVertex placeTwice badMadeVertex pairTwice badBaseRecords badBaseRecord badPiece badCorners leftHandedRecords leftHandedRecord leftHanded equalCorners cornerNotInBase badBaseMarks badMarks badBaseFaces badFaces badWith badTogether faceInThree faceBefore hasFace sameFace faceWithin faceHas sameCorners cornersWithin hasCorner twoMarks twoMarksOn sameMark sameEnds unusedVertices unusedVertex hangingVertices vertexHangs hangsOn liesIn badCuts badRecord badCut badChildren isChildOf notChildOfOne tooDeep isMidpointOf noMidpoint hangsAt leafHangs hangingEdge tableRows rows firstBroken wrongSelectionLength wrongSelectionMark anotherJob anotherRound badNumber badNumbers selectionRows namesCut namesLast roundRow isNamed midpointOf withMidpoint withChildren cutAt exceeds turn passBelow pass closing refined closed resultOf refineSelectionRows resultRows refineNumber refineBytes
 computed = true

@@ -31,7 +31,7 @@ use Rattle.taken_back.specs.TakenBack.{accepted-again, accepted-good}
 
 -- What taking cuts back answers, for two byte strings and a length of the output buffer.
 pub record TakeBackOutcome (mesh request : List ℕ) (room number : ℕ) (bytes : List ℕ) : Type 0 where
-  -- "either a mesh", which check accepts; "or a numbered refusal", one of "1 to 15, 18 and 20 as in refine, and 30", with check's 22, and "all zeros".
+  -- "either a mesh", which check accepts; "or a numbered refusal", one of "1 to 15, 18 and 20 as in refine, and 30", with check's 22 and 23, and "all zeros".
   pub either :
       ((number ≡ 0) × (out : MeshIn bytes room) × (checkNumber (meshBytes (out .mesh)) ≡ 0))
       ⊎ (OneOf (checkNumbers ++ (11 ∷ 12 ∷ 13 ∷ 14 ∷ 15 ∷ 30 ∷ 18 ∷ 20 ∷ [])) number × (bytes ≡ replicate room 0))

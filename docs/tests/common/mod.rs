@@ -229,6 +229,19 @@ pub fn cube() -> Vec<u8> {
     second::build_vec(1, &cube_coordinates(64), &CUBE_CORNERS).expect("the cube is a mesh")
 }
 
+/// "A vertex in the middle of a neighbour's edge": K of job 7 and round 0, and a piece that has vertex 4
+/// in the middle of K's edge 0-3, or as far from there as given. Each is cut at slots 0 and 1 first.
+pub fn on_an_edge_of_k(off: [i16; 3]) -> Stored {
+    let place = off.map(|x| 32 + x);
+    let mut places: Vec<[i16; 3]> = K_COORDINATES
+        .chunks(3)
+        .map(|p| [p[0], p[1], p[2]])
+        .collect();
+    places.extend([place, [-64, 64, 0], [-64, 128, 0], [-64, 64, 64]]);
+    let stored = of_type_o(&places, &[[0, 3, 1, 2], [4, 5, 6, 7]]);
+    Stored { job: 7, ..stored }
+}
+
 /// A selection for the mesh's own job and round.
 pub fn choose(mesh: &[u8], numbers: &[u16]) -> Vec<u8> {
     let stored = decode(mesh);
@@ -528,49 +541,36 @@ impl Random {
 // ---------------------------------------------------------------------------------------------
 // Larger meshes, and what is expected of refusals.
 
-/// A plain mesh of that many vertices and records whose pieces lie anyhow: every vertex is used, no
-/// face is in three pieces and no four corners come twice.
+/// A plain mesh of that many vertices and records: cubes of six pieces each between the places of the
+/// grid, some pieces left out, every vertex used. The cubes are bent a little and still fill their space
+/// side by side, so no vertex lies in a piece that it isn't a corner of.
 pub fn crowded(vertices: u16, records: usize, seed: u64) -> (Vec<i16>, Vec<u16>) {
     let mut random = Random(seed);
-    let coordinates: Vec<i16> = (0..vertices).flat_map(grid_place).collect();
-    let mut corners: Vec<u16> = Vec::new();
-    let mut pieces = BTreeSet::new();
-    let mut faces: BTreeMap<[u16; 3], u32> = BTreeMap::new();
-    let mut unused: Vec<u16> = (0..vertices).collect();
-    random.shuffle(&mut unused);
-    while corners.len() < 4 * records {
-        let mut piece = [0; 4].map(|_: u16| random.below(vertices as usize) as u16);
-        if let Some(&vertex) = unused.last() {
-            piece[0] = vertex;
+    // Columns and rows 0 and 1 change places: so each vertex is in a piece with lower ones.
+    let first_two = |n: u16| if n < 2 { 1 - n } else { n };
+    let number = |n: u16| first_two(n % 11) + 11 * first_two(n / 11 % 10) + n / 110 * 110;
+    let coordinates: Vec<i16> = (0..vertices).map(number).flat_map(grid_place).collect();
+    let mut pieces: Vec<[u16; 4]> = Vec::new();
+    let last_column_or_row = |n: u16| n % 11 == 10 || n / 11 % 10 == 9;
+    for low in (0..vertices).filter(|&n| !last_column_or_row(n)) {
+        for piece in CUBE_CORNERS.chunks(4) {
+            let corner = |c: u16| number(low + (c & 1) + 11 * (c >> 1 & 1) + 110 * (c >> 2 & 1));
+            pieces.push([0, 1, 2, 3].map(|slot| corner(piece[slot])));
         }
-        let mut sorted = piece;
-        sorted.sort_unstable();
-        let solid = second::build_vec(0, &four_places(&coordinates, piece), &[0, 1, 2, 3]).is_ok();
-        let open = [0, 1, 2, 3].map(|i| face_set(piece, i));
-        if !solid
-            || pieces.contains(&sorted)
-            || open
-                .iter()
-                .any(|face| faces.get(face).copied().unwrap_or(0) > 1)
-        {
-            continue;
-        }
-        pieces.insert(sorted);
-        for face in open {
-            *faces.entry(face).or_insert(0) += 1;
-        }
-        unused.retain(|vertex| !piece.contains(vertex));
-        corners.extend(piece);
     }
-    assert!(unused.is_empty());
-    (coordinates, corners)
-}
-
-fn four_places(coordinates: &[i16], piece: [u16; 4]) -> Vec<i16> {
-    piece
-        .iter()
-        .flat_map(|&c| coordinates[3 * c as usize..3 * c as usize + 3].to_vec())
-        .collect()
+    pieces.retain(|piece| piece.iter().all(|&corner| corner < vertices));
+    random.shuffle(&mut pieces);
+    // First pieces that use a vertex more, then any others.
+    let mut unused: BTreeSet<u16> = (0..vertices).collect();
+    let uses_more = |piece: &[u16; 4]| piece.map(|c| unused.remove(&c)).contains(&true);
+    let (mut chosen, others): (Vec<_>, Vec<_>) = pieces.into_iter().partition(uses_more);
+    assert!(unused.is_empty() && chosen.len() <= records);
+    chosen.extend(others);
+    assert!(chosen.len() >= records);
+    chosen.truncate(records);
+    random.shuffle(&mut chosen);
+    chosen.iter_mut().for_each(|piece| random.shuffle(piece));
+    (coordinates, chosen.concat())
 }
 
 /// Lengths of output buffers that no refusal but 20 may depend on.
@@ -711,6 +711,21 @@ pub fn marked(places: &[[i16; 3]], pieces: &[([u16; 4], u8, [u8; 4])]) -> Stored
     }
 }
 
+/// The pieces by their corners, each with slots 2 and 3 exchanged if it is left-handed, and cut at slots
+/// 0 and 1 first (type O). A face that two of them share has to be marked alike.
+pub fn of_type_o(places: &[[i16; 3]], pieces: &[[u16; 4]]) -> Stored {
+    let mut stored = marked(places, &[]);
+    stored.base_records = pieces.len() as u16;
+    for &corners in pieces {
+        let alone = marked(places, &[(corners, 0, [5, 5, 0, 0])]);
+        stored.records.push(match alone.signed(0) < 0 {
+            true => turned(&alone.records[0], 2, 3),
+            false => alone.records[0],
+        });
+    }
+    stored
+}
+
 // ---------------------------------------------------------------------------------------------
 // A naive check: each rule as it stands, by going through everything.
 
@@ -738,7 +753,7 @@ pub fn naive_check(bytes: &[u8]) -> (u64, u64, u64) {
     let stored = decode(bytes);
     let s = &stored;
     let (base_vertices, base_records) = (s.base_vertices as usize, s.base_records as usize);
-    let rules: [(u64, &dyn Fn() -> bool); 7] = [
+    let rules: [(u64, &dyn Fn() -> bool); 8] = [
         (4, &|| vertices_hold(s, base_vertices)),
         (5, &|| {
             s.records[..base_records]
@@ -755,6 +770,7 @@ pub fn naive_check(bytes: &[u8]) -> (u64, u64, u64) {
                     .any(|r| r.corners.contains(&n))
             })
         }),
+        (23, &|| vertices_in_pieces(s).is_empty()),
         (9, &|| cuts_hold(s, base_vertices, base_records)),
     ];
     for (number, holds) in rules {
@@ -840,6 +856,47 @@ fn faces_hold(base: &[Record]) -> bool {
             let same = || faces.iter().filter(|(other, _)| other == face);
             same().count() < 3 && same().all(|(_, other)| other == mark)
         })
+}
+
+/// Each base vertex that lies in a closed base piece of which it isn't a corner, with the record's number.
+pub fn vertices_in_pieces(s: &Stored) -> Vec<(u16, usize)> {
+    let place = |n: u16| s.vertices[n as usize].place;
+    let mut found = Vec::new();
+    for (number, r) in s.records[..s.base_records as usize].iter().enumerate() {
+        let inside = |&n: &u16| !r.corners.contains(&n) && is_mean(r.corners.map(place), place(n));
+        found.extend((0..s.base_vertices).filter(inside).map(|n| (n, number)));
+    }
+    found
+}
+
+/// Whether a place is a mean of four others, which aren't in a plane, by weights that aren't negative.
+/// The weights are found by elimination in whole numbers, without a determinant.
+pub fn is_mean(of: [[i16; 3]; 4], place: [i16; 3]) -> bool {
+    let [origin, others @ ..] = of;
+    // An equation for each axis, all from the first place: the others, and what they have to make up.
+    let mut rows = [0, 1, 2].map(|axis| {
+        let [b, c, d] = others;
+        [b, c, d, place].map(|p| p[axis] as i128 - origin[axis] as i128)
+    });
+    let mut whole = 1;
+    for column in 0..3 {
+        let pivot = (column..3).find(|&row| rows[row][column] != 0);
+        rows.swap(column, pivot.expect("four places that aren't in a plane"));
+        let chosen = rows[column];
+        for row in (0..3).filter(|&row| row != column) {
+            let factor = rows[row][column];
+            for (entry, by) in rows[row].iter_mut().zip(chosen) {
+                // Divided exactly, so that the entries stay small (Bareiss).
+                *entry = (chosen[column] * *entry - factor * by) / whole;
+            }
+        }
+        whole = chosen[column];
+    }
+    let [b, c, d] = rows.map(|row| row[3]);
+    // Each weight is one of these over the whole.
+    [whole - b - c - d, b, c, d]
+        .iter()
+        .all(|weight| weight.signum() * whole.signum() >= 0)
 }
 
 fn cuts_hold(s: &Stored, base_vertices: usize, base_records: usize) -> bool {

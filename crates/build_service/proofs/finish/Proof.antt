@@ -25,8 +25,8 @@ returns c =
     let s = assembled (a .h) v r in
     let room = length (now (a .out)) in
     let j = c .before .judged in
-    let found = j .ensures ∙ ap (judgedNumber (a .given)) (ap (λ (l : Layout). tables (a .h) l v r) (c .before .before .working-layout .ensures) ∙ tables-assembled (a .h) (c .before .before .before .before .before .before .pre .fits) v r (c .before .before .before .before .before .before .pre .vertices-there) (c .before .before .before .before .before .before .pre .records-there)) in
-    (refused-number (a .given) s room (j .result) found (c .if1 .taken), c .before .before .before .before .before .before .pre .clear ∙ refused-bytes (a .given) s room (j .result) found (c .if1 .taken))
+    let found = j .ensures ∙ ap (judgedNumber (a .bad-given)) (ap (λ (l : Layout). tables (a .h) l v r) (c .before .before .working-layout .ensures) ∙ tables-assembled (a .h) (c .before .before .before .before .before .before .pre .fits) v r (c .before .before .before .before .before .before .pre .vertices-there) (c .before .before .before .before .before .before .pre .records-there)) in
+    (refused-number (a .bad-given) s room (j .result) found (c .if1 .taken), c .before .before .before .before .before .before .pre .clear ∙ refused-bytes (a .bad-given) s room (j .result) found (c .if1 .taken))
 
 returns-2 : tie.Need-returns-2
 returns-2 c =
@@ -36,10 +36,10 @@ returns-2 c =
     let s = assembled (a .h) v r in
     let room = length (now (a .out)) in
     let j = c .before .before .before .judged in
-    let found = j .ensures ∙ ap (judgedNumber (a .given)) (ap (λ (l : Layout). tables (a .h) l v r) (c .before .before .before .before .working-layout .ensures) ∙ tables-assembled (a .h) (c .before .before .before .before .before .before .before .before .pre .fits) v r (c .before .before .before .before .before .before .before .before .pre .vertices-there) (c .before .before .before .before .before .before .before .before .pre .records-there)) in
+    let found = j .ensures ∙ ap (judgedNumber (a .bad-given)) (ap (λ (l : Layout). tables (a .h) l v r) (c .before .before .before .before .working-layout .ensures) ∙ tables-assembled (a .h) (c .before .before .before .before .before .before .before .before .pre .fits) v r (c .before .before .before .before .before .before .before .before .pre .vertices-there) (c .before .before .before .before .before .before .before .before .pre .records-there)) in
     let none = sym found ∙ c .before .before .if1 .left in
     let short : room < length s = omega (arith, c .if2 .taken, c .before .mesh-length .ensures, assembled-length (a .h) v r (c .before .before .before .before .before .before .before .before .pre .vertices-there) (c .before .before .before .before .before .before .before .before .pre .records-there)) in
-    (sym (full-number (a .given) s room none short), c .before .before .before .before .before .before .before .before .pre .clear ∙ full-bytes (a .given) s room none short)
+    (sym (full-number (a .bad-given) s room none short), c .before .before .before .before .before .before .before .before .pre .clear ∙ full-bytes (a .bad-given) s room none short)
 
 returns-3 : tie.Need-returns-3
 returns-3 c =
@@ -49,10 +49,10 @@ returns-3 c =
     let s = assembled (a .h) v r in
     let room = length (now (a .out)) in
     let j = c .before .before .before .before .before .before .before .judged in
-    let found = j .ensures ∙ ap (judgedNumber (a .given)) (ap (λ (l : Layout). tables (a .h) l v r) (c .before .before .before .before .before .before .before .before .working-layout .ensures) ∙ tables-assembled (a .h) (c .before .before .before .before .before .before .before .before .before .before .before .before .pre .fits) v r (c .before .before .before .before .before .before .before .before .before .before .before .before .pre .vertices-there) (c .before .before .before .before .before .before .before .before .before .before .before .before .pre .records-there)) in
+    let found = j .ensures ∙ ap (judgedNumber (a .bad-given)) (ap (λ (l : Layout). tables (a .h) l v r) (c .before .before .before .before .before .before .before .before .working-layout .ensures) ∙ tables-assembled (a .h) (c .before .before .before .before .before .before .before .before .before .before .before .before .pre .fits) v r (c .before .before .before .before .before .before .before .before .before .before .before .before .pre .vertices-there) (c .before .before .before .before .before .before .before .before .before .before .before .before .pre .records-there)) in
     let none = sym found ∙ c .before .before .before .before .before .before .if1 .left in
     let fits : length s ≤ room = omega (arith, c .before .before .before .before .if2 .left, c .before .before .before .before .before .mesh-length .ensures, assembled-length (a .h) v r (c .before .before .before .before .before .before .before .before .before .before .before .before .pre .vertices-there) (c .before .before .before .before .before .before .before .before .before .before .before .before .pre .records-there)) in
-    (sym (stored-number (a .given) s room none fits), c .before .before .put-mesh .ensures ∙ ap (λ (t : List ℕ). sets t 0 s) (c .before .before .before .before .before .before .before .before .before .before .before .before .pre .clear) ∙ stored-bytes (a .given) s room none fits)
+    (sym (stored-number (a .bad-given) s room none fits), c .before .before .put-mesh .ensures ∙ ap (λ (t : List ℕ). sets t 0 s) (c .before .before .before .before .before .before .before .before .before .before .before .before .pre .clear) ∙ stored-bytes (a .bad-given) s room none fits)
 
 pub finish-spec : {M : Type 1} → statement M
 finish-spec = tie.close (tie.spec (λ c κs. search needs) (λ c κs. search needs) returns (λ c κs. search needs) returns-2 (λ c κs. search needs) (λ c. search needs) returns-3)

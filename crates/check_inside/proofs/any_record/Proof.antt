@@ -12,7 +12,7 @@ use Rattle.laws.specs.Links.{Chain}
 use Rattle.stored.specs.declared.Vertex.{Vertex}
 use Rattle.stored.specs.declared.Record.{Record}
 use Rattle.stored.specs.Layout.{vertexIn, recordIn}
-use Rattle.check_inside.specs.Hanging.{hangsOn}
+use Rattle.check_refusals.specs.Refusals.{hangsOn}
 use Rattle.check_inside.specs.Cells.{placeKey}
 use Rattle.check_inside.proofs.any_record.Statement.{statement}
 use Rattle.check_inside.proofs.any_record.Tie as tie

@@ -5,7 +5,7 @@ use mathlib.Core.Path.{sym, _∙_}
 use denote.Ref.{now}
 use Rattle.laws.specs.Links.{roomy}
 use Rattle.stored.specs.Layout.{vertexIn}
-use Rattle.check_inside.specs.Hanging.{vertexHangs, hangingVertices}
+use Rattle.check_refusals.specs.Refusals.{vertexHangs, hangingVertices}
 use Rattle.check_inside.specs.Search.{cells-linked}
 use Rattle.check_inside.proofs.hanging_vertices.Statement.{statement}
 use Rattle.check_inside.proofs.hanging_vertices.Tie as tie
