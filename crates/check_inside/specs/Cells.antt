@@ -1,4 +1,4 @@
--- Cells of one width, in which base vertices are linked, and what a piece asks in them. Which cells there are decides nothing but the time.
+-- Cells of one width, in which base vertices are linked, and what a piece asks in them. How wide they are decides nothing but the time.
 use mathlib.Core.Bool.{Bool, not, _&&_, _||_}
 use mathlib.Core.List.{List}
 use Prim.Native.Nat.{ℕ, _+_, _-_, _*_, _/_, min, max}
@@ -13,27 +13,26 @@ use Rattle.grid.specs.Places.{Point, pointOf}
 use Rattle.grid_volume.specs.Volume.{cornersOf}
 use Rattle.grid_inside.specs.Inside.{liesIn}
 use Rattle.stored.specs.declared.Vertex.{Vertex}
-use Rattle.check_inside.specs.declared.Cells.{Cells}
 use Rattle.check_inside.specs.declared.Slabs.{Slabs}
 use Rattle.check_inside.specs.declared.Corner.{Corner}
 use Rattle.check_inside.specs.declared.Asking.{Asking}
 
 -- ---- cells
 
--- The number of the cell along one axis.
-unfoldable pub slabOf : ℕ → ℕ → ℕ → ℕ
-slabOf least width x = (x - least) / (width + 1)
+-- The number of the cell along one axis. The width is one less than a cell's.
+unfoldable pub slabOf : ℕ → ℕ → ℕ
+slabOf width x = x / (width + 1)
 
-unfoldable pub slabsOf : Cells → Place → Slabs
-slabsOf c p = record { x = slabOf (c .least .x) (c .width) (p .x); y = slabOf (c .least .y) (c .width) (p .y); z = slabOf (c .least .z) (c .width) (p .z) }
+unfoldable pub slabsOf : ℕ → Place → Slabs
+slabsOf width p = record { x = slabOf width (p .x); y = slabOf width (p .y); z = slabOf width (p .z) }
 
 -- The number of a cell. The factors move rows and layers apart.
 unfoldable pub cellNumber : ℕ → ℕ → ℕ → ℕ
 cellNumber x y z = x + 31 * y + 961 * z
 
 -- The key of a place, one of so many.
-unfoldable pub placeKey : ℕ → Cells → Place → ℕ
-placeKey keys c p = keyAmong keys (cellNumber (slabsOf c p .x) (slabsOf c p .y) (slabsOf c p .z))
+unfoldable pub placeKey : ℕ → ℕ → Place → ℕ
+placeKey keys width p = keyAmong keys (cellNumber (slabsOf width p .x) (slabsOf width p .y) (slabsOf width p .z))
 
 -- The least and the greatest coordinates of two places.
 unfoldable pub lowerOf : Place → Place → Place

@@ -20,7 +20,6 @@ use Rattle.grid_volume.specs.Volume.{differencesOf, signedOf, leftHanded}
 use Rattle.grid_inside.specs.Inside.{liesIn}
 use Rattle.grid_inside.specs.Box.{box-x, box-y, box-z}
 use Rattle.stored.specs.declared.Vertex.{Vertex}
-use Rattle.check_inside.specs.declared.Cells.{Cells}
 use Rattle.check_inside.specs.declared.Slabs.{Slabs}
 use Rattle.check_inside.specs.declared.Asking.{Asking}
 use Rattle.check_refusals.specs.Refusals.{hasCorner, hangsOn}
@@ -82,23 +81,22 @@ module _ (heads nexts : List ℕ) (P : ℕ → Bool) (from to : Slabs) where
 
 -- ---- cells rise with coordinates
 
-slab-rises : (least width x y : ℕ) → x ≤ y → slabOf least width x ≤ slabOf least width y
+slab-rises : (width x y : ℕ) → x ≤ y → slabOf width x ≤ slabOf width y
 unfolding slabOf
-slab-rises least width x y l =
-    div-mono (x - least) (width + 1) (y - least) (width + 1) (omega arith) (omega arith) (mul-le-mul (omega arith) (le-refl (width + 1)))
+slab-rises width x y l = div-mono x (width + 1) y (width + 1) (omega arith) (omega arith) (mul-le-mul l (le-refl (width + 1)))
 
-module _ (cells : Cells) (p r : Place) where
-  slab-x : p .x ≤ r .x → slabsOf cells p .x ≤ slabsOf cells r .x
+module _ (width : ℕ) (p r : Place) where
+  slab-x : p .x ≤ r .x → slabsOf width p .x ≤ slabsOf width r .x
   unfolding slabsOf
-  slab-x = slab-rises (cells .least .x) (cells .width) (p .x) (r .x)
+  slab-x = slab-rises width (p .x) (r .x)
 
-  slab-y : p .y ≤ r .y → slabsOf cells p .y ≤ slabsOf cells r .y
+  slab-y : p .y ≤ r .y → slabsOf width p .y ≤ slabsOf width r .y
   unfolding slabsOf
-  slab-y = slab-rises (cells .least .y) (cells .width) (p .y) (r .y)
+  slab-y = slab-rises width (p .y) (r .y)
 
-  slab-z : p .z ≤ r .z → slabsOf cells p .z ≤ slabsOf cells r .z
+  slab-z : p .z ≤ r .z → slabsOf width p .z ≤ slabsOf width r .z
   unfolding slabsOf
-  slab-z = slab-rises (cells .least .z) (cells .width) (p .z) (r .z)
+  slab-z = slab-rises width (p .z) (r .z)
 
 -- ---- the box
 
@@ -156,8 +154,8 @@ module _ (q : Asking) where
 
 -- ---- what a right-handed piece finds
 
-module _ (vertexAt : ℕ → Vertex) (count : ℕ) (q : Asking) (cells : Cells) (heads nexts : List ℕ) (some : 0 < length heads)
-    (c : Chain (λ v. placeKey (length heads) cells (vertexAt v .place)) count heads nexts) (right : pos 0 <ℤ signedOf (standing q)) where
+module _ (vertexAt : ℕ → Vertex) (count : ℕ) (q : Asking) (width : ℕ) (heads nexts : List ℕ) (some : 0 < length heads)
+    (c : Chain (λ v. placeKey (length heads) width (vertexAt v .place)) count heads nexts) (right : pos 0 <ℤ signedOf (standing q)) where
   abbrev asked : ℕ → Bool
   asked = hangsBelow vertexAt count q (lowOf q) (highOf q)
 
@@ -186,14 +184,14 @@ module _ (vertexAt : ℕ → Vertex) (count : ℕ) (q : Asking) (cells : Cells) 
       (and-both (corner && isWithin (lowOf q) (highOf q) place) lies (and-both corner _ (and-left corner lies e) (is-within q right place in-it)) in-it)
 
   -- What is asked is found in its own cell.
-  in-own-cell : (u : ℕ) → u < count → asked u ≡ true → let s = slabsOf cells (vertexAt u .place) in inCell heads nexts asked (s .x) (s .y) (s .z) ≡ true
+  in-own-cell : (u : ℕ) → u < count → asked u ≡ true → let s = slabsOf width (vertexAt u .place) in inCell heads nexts asked (s .x) (s .y) (s .z) ≡ true
   unfolding inCell placeKey
   in-own-cell u l e =
-      let s = slabsOf cells (vertexAt u .place) in
-      chain-finds (λ v. placeKey (length heads) cells (vertexAt v .place)) count heads nexts c asked u l (key-within (length heads) (cellNumber (s .x) (s .y) (s .z)) some) e
+      let s = slabsOf width (vertexAt u .place) in
+      chain-finds (λ v. placeKey (length heads) width (vertexAt v .place)) count heads nexts c asked u l (key-within (length heads) (cellNumber (s .x) (s .y) (s .z)) some) e
 
   -- A vertex that hangs on the piece is in a cell that its box meets.
-  found : (u : ℕ) → u < count → plain u ≡ true → inBlock heads nexts asked (slabsOf cells (lowOf q)) (slabsOf cells (highOf q)) ≡ true
+  found : (u : ℕ) → u < count → plain u ≡ true → inBlock heads nexts asked (slabsOf width (lowOf q)) (slabsOf width (highOf q)) ≡ true
   unfolding hangsAmong
   found u l e =
       let place = vertexAt u .place in
@@ -201,16 +199,16 @@ module _ (vertexAt : ℕ → Vertex) (count : ℕ) (q : Asking) (cells : Cells) 
       let x = in-x q right place lies in
       let y = in-y q right place lies in
       let z = in-z q right place lies in
-      block-is heads nexts asked (slabsOf cells (lowOf q)) (slabsOf cells (highOf q)) (slabsOf cells place)
-      (slab-x cells (lowOf q) place (x .0)) (slab-x cells place (highOf q) (x .1))
-      (slab-y cells (lowOf q) place (y .0)) (slab-y cells place (highOf q) (y .1))
-      (slab-z cells (lowOf q) place (z .0)) (slab-z cells place (highOf q) (z .1))
+      block-is heads nexts asked (slabsOf width (lowOf q)) (slabsOf width (highOf q)) (slabsOf width place)
+      (slab-x width (lowOf q) place (x .0)) (slab-x width place (highOf q) (x .1))
+      (slab-y width (lowOf q) place (y .0)) (slab-y width place (highOf q) (y .1))
+      (slab-z width (lowOf q) place (z .0)) (slab-z width place (highOf q) (z .1))
       (in-own-cell u l (plain-asked u l e))
 
-  pub block-found : inBlock heads nexts (hangsBelow vertexAt count q (lowOf q) (highOf q)) (slabsOf cells (lowOf q)) (slabsOf cells (highOf q)) ≡ anyBelow count (λ u. hangsAmong q u (vertexAt u .place))
+  pub block-found : inBlock heads nexts (hangsBelow vertexAt count q (lowOf q) (highOf q)) (slabsOf width (lowOf q)) (slabsOf width (highOf q)) ≡ anyBelow count (λ u. hangsAmong q u (vertexAt u .place))
   block-found =
       same-tests _ _
-      (λ e. let (u, a) = block-where heads nexts asked (slabsOf cells (lowOf q)) (slabsOf cells (highOf q)) e in
+      (λ e. let (u, a) = block-where heads nexts asked (slabsOf width (lowOf q)) (slabsOf width (highOf q)) e in
       let (l, p) = asked-plain u a in
       any-is plain count u l p)
       (λ e. let (u, l, p) = any-where plain count e in found u l p)
@@ -229,24 +227,24 @@ all-asked vertexAt p count is =
     ∙ any-same count (λ u. hangsAmong (askingOf vertexAt p) u (vertexAt u .place)) (hangsOn vertexAt p) (λ u l. asking-hangs vertexAt p u)
 
 -- And what the cells answer.
-pub cells-asked : (vertexAt : ℕ → Vertex) (p : Piece) (count : ℕ) {q : Asking} (cells : Cells) (heads nexts : List ℕ) {low high : Place} {from to : Slabs} →
-    q ≡ askingOf vertexAt p → 0 < length heads → Chain (λ v. placeKey (length heads) cells (vertexAt v .place)) count heads nexts → pos 0 <ℤ signedOf (standing q) →
-    low ≡ lowOf q → high ≡ highOf q → from ≡ slabsOf cells low → to ≡ slabsOf cells high →
+pub cells-asked : (vertexAt : ℕ → Vertex) (p : Piece) (count : ℕ) {q : Asking} (width : ℕ) (heads nexts : List ℕ) {low high : Place} {from to : Slabs} →
+    q ≡ askingOf vertexAt p → 0 < length heads → Chain (λ v. placeKey (length heads) width (vertexAt v .place)) count heads nexts → pos 0 <ℤ signedOf (standing q) →
+    low ≡ lowOf q → high ≡ highOf q → from ≡ slabsOf width low → to ≡ slabsOf width high →
     inBlock heads nexts (hangsBelow vertexAt count q low high) from to ≡ anyBelow count (hangsOn vertexAt p)
-cells-asked vertexAt p count {q} cells heads nexts is some c right least most from-is to-is =
-    (λ i. inBlock heads nexts (hangsBelow vertexAt count q (least i) (most i)) ((from-is ∙ ap (slabsOf cells) least) i) ((to-is ∙ ap (slabsOf cells) most) i))
-    ∙ block-found vertexAt count q cells heads nexts some c right
+cells-asked vertexAt p count {q} width heads nexts is some c right least most from-is to-is =
+    (λ i. inBlock heads nexts (hangsBelow vertexAt count q (least i) (most i)) ((from-is ∙ ap (slabsOf width) least) i) ((to-is ∙ ap (slabsOf width) most) i))
+    ∙ block-found vertexAt count q width heads nexts some c right
     ∙ all-asked vertexAt p count is
 
 -- ---- the links
 
 -- Where there is room, what is linked from cleared heads on is a chain by cells.
-pub cells-linked : (vertexAt : ℕ → Vertex) (cells : Cells) (count : ℕ) (heads nexts cleared heads′ nexts′ : List ℕ) → Roomy heads nexts count → cleared ≡ replicate (length heads) 0 →
-    heads′ ≡ linkedBelow (λ v. placeKey (length cleared) cells (vertexAt v .place)) (linksOf cleared nexts) count .heads →
-    nexts′ ≡ linkedBelow (λ v. placeKey (length cleared) cells (vertexAt v .place)) (linksOf cleared nexts) count .nexts →
-    (0 < length heads′) × Chain (λ v. placeKey (length heads′) cells (vertexAt v .place)) count heads′ nexts′
-cells-linked vertexAt cells count heads nexts cleared heads′ nexts′ room clear heads-are nexts-are =
-    let key : ℕ → ℕ → ℕ = λ keys v. placeKey keys cells (vertexAt v .place) in
+pub cells-linked : (vertexAt : ℕ → Vertex) (width : ℕ) (count : ℕ) (heads nexts cleared heads′ nexts′ : List ℕ) → Roomy heads nexts count → cleared ≡ replicate (length heads) 0 →
+    heads′ ≡ linkedBelow (λ v. placeKey (length cleared) width (vertexAt v .place)) (linksOf cleared nexts) count .heads →
+    nexts′ ≡ linkedBelow (λ v. placeKey (length cleared) width (vertexAt v .place)) (linksOf cleared nexts) count .nexts →
+    (0 < length heads′) × Chain (λ v. placeKey (length heads′) width (vertexAt v .place)) count heads′ nexts′
+cells-linked vertexAt width count heads nexts cleared heads′ nexts′ room clear heads-are nexts-are =
+    let key : ℕ → ℕ → ℕ = λ keys v. placeKey keys width (vertexAt v .place) in
     let same : length heads′ ≡ length cleared = ap length heads-are ∙ linked-heads-long (key (length cleared)) (linksOf cleared nexts) count in
     let long : length cleared ≡ length heads = ap length clear ∙ length-replicate {A = ℕ} (length heads) 0 in
     let zeros : (k : ℕ) → getD cleared k 0 ≡ 0 = λ k. ap (λ (t : List ℕ). getD t k 0) clear ∙ zeros-at (length heads) k in (

@@ -4,7 +4,7 @@ use stored::Header;
 use stored::Layout;
 ghost use mathlib.Core.Path.{_≡_};
 ghost use mathlib.Core.Bool.{_||_};
-ghost use Prim.Native.Nat.{_<_, min, max};
+ghost use Prim.Native.Nat.{_<_, _≤_, min, max};
 ghost use lib.ListN.{length};
 ghost use Rattle.laws.specs.Below.{anyBelow};
 ghost use Rattle.laws.specs.Links.{linksOf, linkedBelow, short, Chain};
@@ -14,12 +14,6 @@ ghost use Rattle.stored.specs.Layout.{vertexIn, recordIn};
 ghost use Rattle.mesh_tables.specs.Tables.{tables};
 ghost use Rattle.check_refusals.specs.Refusals.{hangsOn, hangingVertices};
 ghost use Rattle.check_inside.specs.Cells.{slabOf, slabsOf, cellNumber, placeKey, lowerOf, upperOf, askingOf, standing, isCorner, isWithin, hangsAmong, hangsBelow, inCell, inRow, inLayer, inBlock};
-
-// Where the cells begin, and one less than their width.
-struct Cells {
-    least: Place,
-    width: u16,
-}
 
 // The numbers of a cell along the three axes.
 struct Slabs {
@@ -42,8 +36,8 @@ struct Asking {
     d: Corner,
 }
 
-// More parts of the longest side than there may be vertices are of no use.
-const PARTS: u16 = stored::VERTICES as u16;
+// So many pieces, or one more, are looked at for the cells' width.
+const SAMPLES: u32 = 32;
 
 fn least(a: u16, b: u16) -> u16
     ensures { λ r. ⌜ r ≡ min a b ⌝ }
@@ -78,23 +72,19 @@ fn upper(p: Place, q: Place) -> Place
 }
 
 // The number of a cell along one axis.
-fn slab(least: u16, width: u16, x: u16) -> u32
-    ensures { λ r. ⌜ r ≡ slabOf least width x ⌝ }
+fn slab(width: u16, x: u16) -> u32
+    ensures { λ r. ⌜ r ≡ slabOf width x ⌝ }
 {
-    if x < least {
-        return 0;
-    }
-    (x - least) as u32 / (width as u32 + 1)
+    x as u32 / (width as u32 + 1)
 }
 
-fn slabs_of(cells: Cells, p: Place) -> Slabs
-    ensures { λ r. ⌜ r ≡ slabsOf cells p ⌝ }
+fn slabs_of(width: u16, p: Place) -> Slabs
+    ensures { λ r. ⌜ r ≡ slabsOf width p ⌝ }
 {
-    let least = cells.least;
     Slabs {
-        x: slab(least.x, cells.width, p.x),
-        y: slab(least.y, cells.width, p.y),
-        z: slab(least.z, cells.width, p.z),
+        x: slab(width, p.x),
+        y: slab(width, p.y),
+        z: slab(width, p.z),
     }
 }
 
@@ -104,10 +94,10 @@ fn cell_number(x: u32, y: u32, z: u32) -> usize
     x as usize + 31 * (y as usize) + 961 * (z as usize)
 }
 
-fn place_key(keys: usize, cells: Cells, p: Place) -> usize
-    ensures { λ r. ⌜ r ≡ placeKey keys cells p ⌝ }
+fn place_key(keys: usize, width: u16, p: Place) -> usize
+    ensures { λ r. ⌜ r ≡ placeKey keys width p ⌝ }
 {
-    let s = slabs_of(cells, p);
+    let s = slabs_of(width, p);
     chains::key(cell_number(s.x, s.y, s.z), keys)
 }
 
@@ -117,17 +107,17 @@ fn link_all<'a>(
     base: &'a [u8],
     grown: &'a [u8],
     count: usize,
-    cells: Cells,
+    width: u16,
     heads: &mut [u16],
     nexts: &mut [u16],
 )
-    ensures { λ _. ⌜ now (heads .exit) ≡ linkedBelow (λ v. placeKey (length (now (heads .entry))) cells (vertexIn l (now (base .entry)) (now (grown .entry)) v .place)) (linksOf (now (heads .entry)) (now (nexts .entry))) count .heads ⌝ }
-    ensures { λ _. ⌜ now (nexts .exit) ≡ linkedBelow (λ v. placeKey (length (now (heads .entry))) cells (vertexIn l (now (base .entry)) (now (grown .entry)) v .place)) (linksOf (now (heads .entry)) (now (nexts .entry))) count .nexts ⌝ }
+    ensures { λ _. ⌜ now (heads .exit) ≡ linkedBelow (λ v. placeKey (length (now (heads .entry))) width (vertexIn l (now (base .entry)) (now (grown .entry)) v .place)) (linksOf (now (heads .entry)) (now (nexts .entry))) count .heads ⌝ }
+    ensures { λ _. ⌜ now (nexts .exit) ≡ linkedBelow (λ v. placeKey (length (now (heads .entry))) width (vertexIn l (now (base .entry)) (now (grown .entry)) v .place)) (linksOf (now (heads .entry)) (now (nexts .entry))) count .nexts ⌝ }
 {
     let mut v: usize = 0;
     while v < count {
         let place = stored_entries::place_in(l, base, grown, v);
-        let key = place_key(heads.len(), cells, place);
+        let key = place_key(heads.len(), width, place);
         chains::push(heads, nexts, key, v);
         v += 1;
     }
@@ -423,7 +413,31 @@ fn any_in_block<'a>(
     false
 }
 
-// Record n: where it is right-handed, what lies in it lies in its box, and the cells that the box meets are asked.
+// How many cells there are along an axis, from one to another.
+fn side(from: u32, to: u32) -> u64
+    ensures { λ r. ⌜ r ≤ 4294967296 ⌝ }
+{
+    if to < from {
+        return 0;
+    }
+    (to - from) as u64 + 1
+}
+
+// Whether a block has more cells than so many.
+fn too_many(count: u32, from: Slabs, to: Slabs) -> bool {
+    let most = count as u64;
+    let row = side(from.x, to.x);
+    if most < row {
+        return true;
+    }
+    let layer = row * side(from.y, to.y);
+    if most < layer {
+        return true;
+    }
+    most < layer * side(from.z, to.z)
+}
+
+// Record n: where it is right-handed, what lies in it lies in its box, and the cells that the box meets are asked, unless there are more of them than vertices.
 fn record_hangs<'a>(
     l: Layout,
     base: &'a [u8],
@@ -431,10 +445,10 @@ fn record_hangs<'a>(
     heads: &'a [u16],
     nexts: &'a [u16],
     count: u32,
-    cells: Cells,
+    width: u16,
     n: usize,
 ) -> bool
-    ensures { λ r. ⌜ (0 < length (now (heads .entry)) → Chain (λ v. placeKey (length (now (heads .entry))) cells (vertexIn l (now (base .entry)) (now (grown .entry)) v .place)) count (now (heads .entry)) (now (nexts .entry)) → r ≡ anyBelow count (hangsOn (vertexIn l (now (base .entry)) (now (grown .entry))) (recordIn l (now (base .entry)) (now (grown .entry)) n .piece))) ⌝ }
+    ensures { λ r. ⌜ (0 < length (now (heads .entry)) → Chain (λ v. placeKey (length (now (heads .entry))) width (vertexIn l (now (base .entry)) (now (grown .entry)) v .place)) count (now (heads .entry)) (now (nexts .entry)) → r ≡ anyBelow count (hangsOn (vertexIn l (now (base .entry)) (now (grown .entry))) (recordIn l (now (base .entry)) (now (grown .entry)) n .piece))) ⌝ }
 {
     let q = asking_of(l, base, grown, n);
     let qa = q.a;
@@ -454,30 +468,12 @@ fn record_hangs<'a>(
     }
     let low = lower(lower(a, b), lower(c, d));
     let high = upper(upper(a, b), upper(c, d));
-    let from = slabs_of(cells, low);
-    let to = slabs_of(cells, high);
+    let from = slabs_of(width, low);
+    let to = slabs_of(width, high);
+    if too_many(count, from, to) {
+        return any_vertex(l, base, grown, count, q);
+    }
     any_in_block(l, base, grown, heads, nexts, count, q, low, high, from, to)
-}
-
-// The least coordinates of so many vertices, and the greatest.
-fn least_place<'a>(l: Layout, base: &'a [u8], grown: &'a [u8], count: usize) -> Place {
-    let mut found = stored_entries::place_in(l, base, grown, 0);
-    let mut v: usize = 1;
-    while v < count {
-        found = lower(found, stored_entries::place_in(l, base, grown, v));
-        v += 1;
-    }
-    found
-}
-
-fn greatest_place<'a>(l: Layout, base: &'a [u8], grown: &'a [u8], count: usize) -> Place {
-    let mut found = stored_entries::place_in(l, base, grown, 0);
-    let mut v: usize = 1;
-    while v < count {
-        found = upper(found, stored_entries::place_in(l, base, grown, v));
-        v += 1;
-    }
-    found
 }
 
 // How far it is from one coordinate to another.
@@ -488,48 +484,36 @@ fn extent(from: u16, to: u16) -> u16 {
     to - from
 }
 
-// How many cells of a width there are along an axis, less one.
-fn cells_along(extent: u16, width: u16) -> u16 {
-    (extent as u32 / (width as u32 + 1)) as u16
+// How far record n reaches along the axis on which it reaches farthest.
+fn reach<'a>(l: Layout, base: &'a [u8], grown: &'a [u8], n: usize) -> u16 {
+    let q = asking_of(l, base, grown, n);
+    let qa = q.a;
+    let qb = q.b;
+    let qc = q.c;
+    let qd = q.d;
+    let low = lower(lower(qa.place, qb.place), lower(qc.place, qd.place));
+    let high = upper(upper(qa.place, qb.place), upper(qc.place, qd.place));
+    greatest(
+        greatest(extent(low.x, high.x), extent(low.y, high.y)),
+        extent(low.z, high.z),
+    )
 }
 
-// Whether there are more of them than so many, in a box of three extents.
-fn too_many(count: usize, x: u16, y: u16, z: u16, width: u16) -> bool {
-    let row = cells_along(x, width) as usize + 1;
-    let layer = row * (cells_along(y, width) as usize + 1);
-    count < layer * (cells_along(z, width) as usize + 1)
-}
-
-// The longest side is cut into ever more parts, while there are no more cells than vertices.
-fn width_for(count: usize, x: u16, y: u16, z: u16) -> u16 {
-    let longest = greatest(greatest(x, y), z);
-    let mut width = longest;
-    let mut parts: u16 = 2;
-    while parts < PARTS {
-        let next = longest / parts;
-        if too_many(count, x, y, z, next) {
-            return width;
-        }
-        width = next;
-        parts += 1;
+// Cells as wide as the pieces reach: the mean of some of them, taken at equal steps. A piece that stands far from the others does not change it.
+fn width_for<'a>(l: Layout, base: &'a [u8], grown: &'a [u8], records: u32) -> u16 {
+    let step = (records / SAMPLES) as usize + 1;
+    let mut n: usize = 0;
+    let mut seen: u64 = 0;
+    let mut sum: u64 = 0;
+    while n < records as usize {
+        sum += reach(l, base, grown, n) as u64;
+        seen += 1;
+        n += step;
     }
-    width
-}
-
-// Cells for so many vertices.
-fn cells_for<'a>(l: Layout, base: &'a [u8], grown: &'a [u8], count: usize) -> Cells {
-    let from = least_place(l, base, grown, count);
-    let to = greatest_place(l, base, grown, count);
-    let width = width_for(
-        count,
-        extent(from.x, to.x),
-        extent(from.y, to.y),
-        extent(from.z, to.z),
-    );
-    Cells {
-        least: from,
-        width: width,
+    if seen == 0 {
+        return 0;
     }
+    (sum / seen) as u16
 }
 
 fn any_record<'a>(
@@ -540,13 +524,13 @@ fn any_record<'a>(
     nexts: &'a [u16],
     vertices: u32,
     records: usize,
-    cells: Cells,
+    width: u16,
 ) -> bool
-    ensures { λ r. ⌜ (0 < length (now (heads .entry)) → Chain (λ v. placeKey (length (now (heads .entry))) cells (vertexIn l (now (base .entry)) (now (grown .entry)) v .place)) vertices (now (heads .entry)) (now (nexts .entry)) → r ≡ anyBelow records (λ n. anyBelow vertices (hangsOn (vertexIn l (now (base .entry)) (now (grown .entry))) (recordIn l (now (base .entry)) (now (grown .entry)) n .piece)))) ⌝ }
+    ensures { λ r. ⌜ (0 < length (now (heads .entry)) → Chain (λ v. placeKey (length (now (heads .entry))) width (vertexIn l (now (base .entry)) (now (grown .entry)) v .place)) vertices (now (heads .entry)) (now (nexts .entry)) → r ≡ anyBelow records (λ n. anyBelow vertices (hangsOn (vertexIn l (now (base .entry)) (now (grown .entry))) (recordIn l (now (base .entry)) (now (grown .entry)) n .piece)))) ⌝ }
 {
     let mut n: usize = 0;
     while n < records {
-        if record_hangs(l, base, grown, heads, nexts, vertices, cells, n) {
+        if record_hangs(l, base, grown, heads, nexts, vertices, width, n) {
             return true;
         }
         n += 1;
@@ -570,8 +554,8 @@ pub fn hanging_vertices<'a>(
         return true;
     }
     chains::clear(heads);
-    let cells = cells_for(l, base, grown, count);
-    link_all(l, base, grown, count, cells, heads, nexts);
+    let width = width_for(l, base, grown, h.base_records);
+    link_all(l, base, grown, count, width, heads, nexts);
     any_record(
         l,
         base,
@@ -580,6 +564,6 @@ pub fn hanging_vertices<'a>(
         nexts,
         h.base_vertices,
         h.base_records as usize,
-        cells,
+        width,
     )
 }

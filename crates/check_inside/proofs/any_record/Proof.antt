@@ -21,13 +21,13 @@ abbrev hang : (ℕ → Vertex) → (ℕ → Record) → ℕ → ℕ → Bool
 hang vertexAt recordAt vertices n = anyBelow vertices (hangsOn vertexAt (recordAt n .piece))
 
 abbrev Inv-loop : tie.InvT-loop
-Inv-loop l base grown heads nexts vertices records cells n₀ n =
+Inv-loop l base grown heads nexts vertices records width n₀ n =
     (n ≤ records)
-    × (0 < length heads → Chain (λ v. placeKey (length heads) cells (vertexIn l base grown v .place)) vertices heads nexts →
+    × (0 < length heads → Chain (λ v. placeKey (length heads) width (vertexIn l base grown v .place)) vertices heads nexts →
     anyBelow n (hang (vertexIn l base grown) (recordIn l base grown) vertices) ≡ false)
 
 abbrev μ-loop : tie.MeasureT-loop
-μ-loop l base grown heads nexts vertices records cells n₀ n = records - n
+μ-loop l base grown heads nexts vertices records width n₀ n = records - n
 
 loop-holds : tie.Need-loop-holds Inv-loop μ-loop
 loop-holds c = let a = c .before .before .before .before .args in (omega arith, λ some chain. any-none (hang (vertexIn (a .l) (now (a .base)) (now (a .grown))) (recordIn (a .l) (now (a .base)) (now (a .grown))) (a .vertices)))

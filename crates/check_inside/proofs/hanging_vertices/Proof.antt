@@ -18,7 +18,7 @@ unfolding hangingVertices vertexHangs
 returns-2 c =
     let a = c .before .before .before .before .before .before .before .before .before .before .before .before .before .before .before .before .before .before .before .before .before .before .before .before .before .args in
     let short = sym (c .before .before .before .before .before .before .before .before .before .before .before .before .before .before .before .before .before .is-short .ensures) ∙ c .before .before .before .before .before .before .before .before .before .before .before .before .before .before .before .before .if1 .left in
-    let (some, chain) = cells-linked (vertexIn (a .l) (now (a .base)) (now (a .grown))) (c .before .before .before .before .before .before .before .before .before .before .before .cells-for .result) (a .h .«base_vertices») (now (a .heads)) (now (a .nexts)) (c .before .before .before .before .before .before .before .before .before .before .before .before .before .before .clear .last .0)
+    let (some, chain) = cells-linked (vertexIn (a .l) (now (a .base)) (now (a .grown))) (c .before .before .before .before .before .before .before .before .before .before .before .width-for .result) (a .h .«base_vertices») (now (a .heads)) (now (a .nexts)) (c .before .before .before .before .before .before .before .before .before .before .before .before .before .before .clear .last .0)
     (c .before .before .before .before .before .before .before .before .link-all .last .1 .1 .1 .1 .1 .0) (c .before .before .before .before .before .before .before .before .link-all .last .1 .1 .1 .1 .1 .1 .0)
     (roomy (now (a .heads)) (now (a .nexts)) (a .h .«base_vertices») short) (c .before .before .before .before .before .before .before .before .before .before .before .before .before .before .clear .ensures) (c .before .before .before .before .before .before .before .before .link-all .ensures .0) (c .before .before .before .before .before .before .before .before .link-all .ensures .1) in
     rw short (c .any-record .ensures some chain)

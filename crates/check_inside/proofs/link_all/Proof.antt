@@ -14,12 +14,12 @@ use Rattle.check_inside.proofs.link_all.Statement.{statement}
 use Rattle.check_inside.proofs.link_all.Tie as tie
 
 abbrev Inv-loop : tie.InvT-loop
-Inv-loop l base grown count cells heads₀ nexts₀ v₀ heads nexts v =
+Inv-loop l base grown count width heads₀ nexts₀ v₀ heads nexts v =
     (v ≤ count)
-    × (linksOf heads nexts ≡ linkedBelow (λ v. placeKey (length heads₀) cells (vertexIn l base grown v .place)) (linksOf heads₀ nexts₀) v)
+    × (linksOf heads nexts ≡ linkedBelow (λ v. placeKey (length heads₀) width (vertexIn l base grown v .place)) (linksOf heads₀ nexts₀) v)
 
 abbrev μ-loop : tie.MeasureT-loop
-μ-loop l base grown count cells heads₀ nexts₀ v₀ heads nexts v = count - v
+μ-loop l base grown count width heads₀ nexts₀ v₀ heads nexts v = count - v
 
 loop-holds : tie.Need-loop-holds Inv-loop μ-loop
 loop-holds c = (omega arith, sym (linked-none _ _))
@@ -35,7 +35,7 @@ loop-again c =
     let a = c .before .before .before .before .before .before .before .before .before .before .before .before .before .before .before .args in
     let at = c .before .before .before .before .before .before .before .before .before .before .loop in
     let k = length (now (a .heads)) in
-    let key : ℕ → ℕ = λ v. placeKey k (a .cells) (vertexIn (a .l) (now (a .base)) (now (a .grown)) v .place) in
+    let key : ℕ → ℕ = λ v. placeKey k (a .width) (vertexIn (a .l) (now (a .base)) (now (a .grown)) v .place) in
     let start = linksOf (now (a .heads)) (now (a .nexts)) in
     let turn = c .before .before .before .before .push in
     let keys : length (at .heads) ≡ k = ap (λ (links : Links). length (links .heads)) (at .inv .1) ∙ linked-heads-long key start (at .v) in
@@ -57,7 +57,7 @@ returns : tie.Need-returns Inv-loop μ-loop
 returns c =
     let a = c .before .before .before .before .before .before .args in
     let at = c .before .loop in
-    let key : ℕ → ℕ = λ v. placeKey (length (now (a .heads))) (a .cells) (vertexIn (a .l) (now (a .base)) (now (a .grown)) v .place) in
+    let key : ℕ → ℕ = λ v. placeKey (length (now (a .heads))) (a .width) (vertexIn (a .l) (now (a .base)) (now (a .grown)) v .place) in
     let end : at .v ≡ a .count = omega (arith, c .loop-test .left, at .inv .0) in
     let is = at .inv .1 ∙ ap (linkedBelow key (linksOf (now (a .heads)) (now (a .nexts)))) end in
     (ap (λ (links : Links). links .heads) is, ap (λ (links : Links). links .nexts) is)

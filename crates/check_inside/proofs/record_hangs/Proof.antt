@@ -1,4 +1,4 @@
--- `check_inside::record_hangs`: a piece that is right-handed asks its cells, any other asks all.
+-- `check_inside::record_hangs`: a piece that is right-handed asks its cells, unless there are too many; any other asks all.
 -- Assumes nothing.
 use borrow.Author.Needs.{needs}
 use borrow.Author.Tests.{eqb-false}
@@ -34,16 +34,21 @@ returns-2 c some chain =
     c .any-vertex2 .ensures ∙ all-asked (vertexIn (g .l) (now (g .base)) (now (g .grown))) (recordIn (g .l) (now (g .base)) (now (g .grown)) (g .n) .piece) (g .count) (c .before .before .before .before .before .before .before .before .before .before .before .before .before .before .asking-of .ensures)
 
 returns-3 : tie.Need-returns-3
-unfolding lowOf highOf
 returns-3 c some chain =
-    let g = c .before .before .before .before .before .before .before .before .before .before .before .before .before .before .before .before .before .before .before .before .before .before .before .before .before .before .before .args in
+    let g = c .before .before .before .before .before .before .before .before .before .before .before .before .before .before .before .before .before .before .before .before .before .before .before .before .before .before .before .before .before .args in
+    c .any-vertex3 .ensures ∙ all-asked (vertexIn (g .l) (now (g .base)) (now (g .grown))) (recordIn (g .l) (now (g .base)) (now (g .grown)) (g .n) .piece) (g .count) (c .before .before .before .before .before .before .before .before .before .before .before .before .before .before .before .before .before .before .before .before .before .before .before .before .asking-of .ensures)
+
+returns-4 : tie.Need-returns-4
+unfolding lowOf highOf
+returns-4 c some chain =
+    let g = c .before .before .before .before .before .before .before .before .before .before .before .before .before .before .before .before .before .before .before .before .before .before .before .before .before .before .before .before .before .args in
     c .any-in-block .ensures
-    ∙ cells-asked (vertexIn (g .l) (now (g .base)) (now (g .grown))) (recordIn (g .l) (now (g .base)) (now (g .grown)) (g .n) .piece) (g .count) (g .cells) (now (g .heads)) (now (g .nexts))
-    (c .before .before .before .before .before .before .before .before .before .before .before .before .before .before .before .before .before .before .before .before .before .before .asking-of .ensures) some chain (right ((c .before .before .before .before .before .before .before .before .before)))
-    (c .before .before .before .before .before .before .lower3 .ensures ∙ ap₂ lowerOf (c .before .before .before .before .before .before .before .before .lower .ensures) (c .before .before .before .before .before .before .before .lower2 .ensures))
-    (c .before .before .before .upper3 .ensures ∙ ap₂ upperOf (c .before .before .before .before .before .upper .ensures) (c .before .before .before .before .upper2 .ensures))
-    (c .before .before .slabs-of .ensures)
-    (c .before .slabs-of2 .ensures)
+    ∙ cells-asked (vertexIn (g .l) (now (g .base)) (now (g .grown))) (recordIn (g .l) (now (g .base)) (now (g .grown)) (g .n) .piece) (g .count) (g .width) (now (g .heads)) (now (g .nexts))
+    (c .before .before .before .before .before .before .before .before .before .before .before .before .before .before .before .before .before .before .before .before .before .before .before .before .asking-of .ensures) some chain (right ((c .before .before .before .before .before .before .before .before .before .before .before)))
+    (c .before .before .before .before .before .before .before .before .lower3 .ensures ∙ ap₂ lowerOf (c .before .before .before .before .before .before .before .before .before .before .lower .ensures) (c .before .before .before .before .before .before .before .before .before .lower2 .ensures))
+    (c .before .before .before .before .before .upper3 .ensures ∙ ap₂ upperOf (c .before .before .before .before .before .before .before .upper .ensures) (c .before .before .before .before .before .before .upper2 .ensures))
+    (c .before .before .before .before .slabs-of .ensures)
+    (c .before .before .before .slabs-of2 .ensures)
 
 pub record-hangs-spec : {M : Type 1} → statement M
 record-hangs-spec =
@@ -66,4 +71,7 @@ record-hangs-spec =
     (λ c κs. search needs)
     (λ c κs. search needs)
     (λ c κs. search needs)
-    returns-3)
+    (λ c κs. search needs)
+    returns-3
+    (λ c κs. search needs)
+    returns-4)
