@@ -1,11 +1,11 @@
--- How large the sum of the leaves' sixfold volumes can be, and the sum of a mesh within the limits.
-use mathlib.Core.Path.{_≡_}
+-- How large a sixfold volume can be, and a sum that wraps.
+use mathlib.Core.Path.{_≡_, refl}
 use mathlib.Core.Bool.{Bool, true, false, cond}
-use Prim.Native.Nat.{ℕ, _*_, _^_, _≤_}
+use Prim.Native.Nat.{ℕ, _+_, _*_, _%_, _^_, _≤_}
+use native.Mathlib.Nat.{mod-add-mod}
 use native.Mathlib.Omega.{arith}
 use mathlib.Core.List.{List}
-use lib.Dec.{ltb}
-use borrow.Author.Tests.{le-ltb}
+use Rattle.laws.specs.Below.{sumBelow, sum-next}
 use Rattle.piece.specs.declared.Piece.{Piece}
 use Rattle.piece.specs.Ends.{cornerAt}
 use Rattle.grid.specs.declared.Place.{Place}
@@ -14,9 +14,9 @@ use Rattle.grid_volume.specs.Volume.{sixfoldOf, differencesOf}
 use Rattle.grid_volume.specs.VolumeLaws.{sixfold-within}
 use Rattle.stored.specs.declared.Layout.{Layout}
 use Rattle.stored.specs.declared.Record.{Record}
-use Rattle.stored.specs.Layout.{limits, vertexIn, vertexFrom}
-use Rattle.mesh_tables.specs.Tables.{Tables, allRecords, uncut, sixfoldAt}
-use Rattle.check_refusals.specs.Check.{leafSixfold, sixfold}
+use Rattle.stored.specs.Layout.{vertexIn, vertexFrom}
+use Rattle.mesh_tables.specs.Tables.{uncut, sixfoldAt}
+use Rattle.check_refusals.specs.Check.{leafSixfold}
 use Rattle.grid.specs.Places.{greatestPlace}
 
 -- Every place that is read is a u16.
@@ -44,10 +44,6 @@ leaf-at-most l base grown r =
     go true x l = l
     go false x l = omega arith
 
--- "At most [..] 3,072 records": the sum over so many, and 0 for a count that refusal 3 refuses.
-unfoldable pub sixfoldWithin : Tables → ℕ
-sixfoldWithin m = cond (ltb (limits .records) (allRecords m)) 0 (sixfold m)
-
-pub within-is : (m : Tables) → allRecords m ≤ limits .records → sixfoldWithin m ≡ sixfold m
-unfolding sixfoldWithin
-within-is m l = rw (le-ltb (limits .records) (allRecords m) l)
+-- A sum modulo m, and one number more.
+pub wraps-next : (f : ℕ → ℕ) (m i s : ℕ) → s ≡ sumBelow i f % m → (s + f i) % m ≡ sumBelow (i + 1) f % m
+wraps-next f m i s inv = rw (inv, mod-add-mod, sum-next f i (sumBelow i f) refl)

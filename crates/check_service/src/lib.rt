@@ -5,11 +5,12 @@ use stored::Header;
 use stored::Layout;
 use stored::Limits;
 ghost use mathlib.Core.Path.{_≡_};
+ghost use Prim.Native.Nat.{_^_, _<_};
 ghost use lib.ListN.{length};
 ghost use Rattle.laws.specs.Links.{Empty};
 ghost use Rattle.mesh_tables.specs.Tables.{tables};
 ghost use Rattle.check_refusals.specs.Refusals.{wrongCounts};
-ghost use Rattle.check_refusals.specs.Check.{refusedWith, accepted, CheckOutcomeIs};
+ghost use Rattle.check_refusals.specs.Check.{refusedWith, sixfold, accepted, CheckOutcomeIs};
 ghost use Rattle.check_refusals.specs.Bounded.{Bounded};
 ghost use Rattle.check_refusals.specs.Lent.{LinksFit, LentToBase, LentToCuts};
 ghost use Rattle.check_hanging.specs.Hanging.{foundOf, noneBroken, reported};
@@ -208,16 +209,16 @@ pub fn verdict(mesh: &[u8]) -> Report
     judged(h, stored::layout_of(h), mesh, mesh)
 }
 
-// What the tables are accepted with.
+// What the tables are accepted with: a u64 holds the sum of their leaves' volumes, which is their base's.
 fn accepted_with<'a>(h: Header, l: Layout, base: &'a [u8], grown: &'a [u8]) -> Report
-    requires { ⌜ Bounded h ⌝ }
+    requires { ⌜ sixfold (tables h l (now base) (now grown)) < 2 ^ 64 ⌝ }
     ensures { λ r. ⌜ r ≡ accepted (tables h l (now (base .entry)) (now (grown .entry))) ⌝ }
 {
     Report {
         number: 0,
         leaves: check_figures::leaves_of(h, l, base, grown),
         deepest: check_figures::deepest_of(h, l, base, grown),
-        sixfold: check_figures::sixfold_within(h, l, base, grown),
+        sixfold: check_figures::sixfold_of(h, l, base, grown),
         record: 0,
         edge: 0,
     }

@@ -7,19 +7,18 @@ use Prim.Native.Nat.{ℕ, suc, _+_, _^_, _≤_, _<_}
 use Prim.Native.String.{String}
 use native.Mathlib.Omega.{arith}
 use lib.ListN.{length, length-append}
-use Rattle.laws.specs.Below.{greatest-at-most, sum-at-most, count-at-most}
+use Rattle.laws.specs.Below.{greatest-at-most, count-at-most}
 use Rattle.laws.specs.Lists.{Bytes}
 use Rattle.piece.specs.declared.Piece.{Piece}
 use Rattle.piece.specs.Ends.{cornerAt, lowerEnd, higherEnd, endsOf}
 use Rattle.stored.specs.declared.Header.{Header}
 use Rattle.stored.specs.declared.Record.{Record}
-use Rattle.stored.specs.Layout.{headerOf, layoutOf, recordIn}
+use Rattle.stored.specs.Layout.{headerOf, layoutOf}
 use Rattle.stored.specs.Fitting.{HeaderFits, RecordFits, header-fits, record-fits}
 use Rattle.check_refusals.specs.declared.Report.{Report}
 use Rattle.mesh_tables.specs.Tables.{tablesOf, allRecords, uncut, isLeaf}
-use Rattle.check_refusals.specs.Check.{accepted, checkOf, leaves, leafGeneration, deepest, leafSixfold, sixfold}
-use Rattle.check_figures.specs.Bounds.{most, leaf-at-most}
-use Rattle.check_service.specs.Verdict.{accepted-whole, accepted-bounded}
+use Rattle.check_refusals.specs.Check.{accepted, checkOf, leaves, leafGeneration, deepest, sixfold}
+use Rattle.check_service.specs.Verdict.{accepted-whole, accepted-fits}
 use Rattle.list_text.specs.Text.{word, lineFeed, decimal, figures}
 use Rattle.list_text.specs.Decimal.{decimal-length}
 use Rattle.list_lines.specs.Lines.{lineRoom, refusedLine, countFigures, checkFigures, headingLine, cornerFigures, edgeFigures, leafLine}
@@ -104,15 +103,8 @@ module _ (s : List ℕ) (b : Bytes s) where
   unfolding deepest
   not-deep = greatest-at-most (λ n. leafGeneration (tablesOf s .recordAt n)) (allRecords (tablesOf s)) 255 (λ n l. leaf-generation n)
 
-  leaf-volume : (n : ℕ) → leafSixfold (tablesOf s .vertexAt) (tablesOf s .recordAt n) ≤ most
-  unfolding tablesOf
-  leaf-volume n = leaf-at-most (layoutOf (headerOf s)) s s (recordIn (layoutOf (headerOf s)) s s n)
-
   volume : checkOf s .number ≡ 0 → sixfold (tablesOf s) < 10 ^ 20
-  unfolding sixfold tablesOf
-  volume e =
-      omega
-      (arith, sum-at-most (λ n. leafSixfold (tablesOf s .vertexAt) (tablesOf s .recordAt n)) (allRecords (tablesOf s)) most (λ n l. leaf-volume n), accepted-bounded s e .records)
+  volume e = omega (arith, accepted-fits s e)
 
   -- The heading of an accepted mesh.
   pub heading-fits : (r : Report) → r ≡ checkOf s → r .number ≡ 0 → length (headingLine (tablesOf s .header) r) ≤ lineRoom

@@ -6,7 +6,7 @@ use denote.Ref.{now}
 use Rattle.check_refusals.specs.declared.Report.{Report}
 use Rattle.mesh_tables.specs.Tables.{tablesOf}
 use Rattle.check_refusals.specs.Check.{checkOf}
-use Rattle.check_service.specs.Verdict.{refused-whole, accepted-whole, accepted-bounded}
+use Rattle.check_service.specs.Verdict.{refused-whole, accepted-whole, accepted-fits}
 use Rattle.check_service.proofs.check.Statement.{statement}
 use Rattle.check_service.proofs.check.Tie as tie
 
@@ -17,10 +17,11 @@ returns c =
     c .before .before .verdict .ensures ∙ refused-whole mesh (λ e. c .if1 .taken (number ∙ e))
 
 accepted-with-requires : tie.Need-accepted-with-requires
+unfolding tablesOf
 accepted-with-requires c κs =
     let mesh = now (c .before .before .before .before .before .before .args .mesh) in
     let number : c .before .before .before .before .verdict .result .number ≡ checkOf mesh .number = ap (λ (r : Report). r .number) (c .before .before .before .before .verdict .ensures) in
-    rw (c .before .header-of .ensures) (accepted-bounded mesh (sym number ∙ c .before .before .if1 .left))
+    rw (c .layout-of .ensures, c .before .header-of .ensures) (accepted-fits mesh (sym number ∙ c .before .before .if1 .left))
 
 returns-2 : tie.Need-returns-2
 unfolding tablesOf
