@@ -1,6 +1,5 @@
 -- How large a sixfold volume can be, and a sum that wraps.
 use mathlib.Core.Path.{_≡_, refl}
-use mathlib.Core.Bool.{Bool, true, false, cond}
 use Prim.Native.Nat.{ℕ, _+_, _*_, _%_, _^_, _≤_}
 use native.Mathlib.Nat.{mod-add-mod}
 use native.Mathlib.Omega.{arith}
@@ -13,10 +12,8 @@ use Rattle.grid.specs.PlaceLaws.{Held}
 use Rattle.grid_volume.specs.Volume.{sixfoldOf, differencesOf}
 use Rattle.grid_volume.specs.VolumeLaws.{sixfold-within}
 use Rattle.stored.specs.declared.Layout.{Layout}
-use Rattle.stored.specs.declared.Record.{Record}
 use Rattle.stored.specs.Layout.{vertexIn, vertexFrom}
-use Rattle.mesh_tables.specs.Tables.{uncut, sixfoldAt}
-use Rattle.check_refusals.specs.Check.{leafSixfold}
+use Rattle.mesh_tables.specs.Tables.{sixfoldAt}
 use Rattle.grid.specs.Places.{greatestPlace}
 
 -- Every place that is read is a u16.
@@ -33,16 +30,6 @@ unfolding sixfoldAt sixfoldOf differencesOf
 sixfold-at-most l base grown p =
     let at : (k : ℕ) → Place = λ k. vertexIn l base grown (cornerAt p k) .place in
     sixfold-within (at 0) (at 1) (at 2) (at 3) (place-held l base grown (cornerAt p 0)) (place-held l base grown (cornerAt p 1)) (place-held l base grown (cornerAt p 2)) (place-held l base grown (cornerAt p 3))
-
--- A leaf's sixfold volume, and what is no leaf's.
-pub leaf-at-most : (l : Layout) (base grown : List ℕ) (r : Record) → leafSixfold (vertexIn l base grown) r ≤ most
-unfolding leafSixfold
-leaf-at-most l base grown r =
-    go (uncut r) (sixfoldAt (vertexIn l base grown) (r .piece)) (sixfold-at-most l base grown (r .piece))
-  where
-    go : (b : Bool) (x : ℕ) → x ≤ most → cond b x 0 ≤ most
-    go true x l = l
-    go false x l = omega arith
 
 -- A sum modulo m, and one number more.
 pub wraps-next : (f : ℕ → ℕ) (m i s : ℕ) → s ≡ sumBelow i f % m → (s + f i) % m ≡ sumBelow (i + 1) f % m
