@@ -1,5 +1,5 @@
 -- Refine's numbers, each with the plain statement of what holds where it is not given: refine gives a number exactly where every
--- rule before it holds and its own does not, and 0 exactly where all twenty hold. Assumes nothing.
+-- rule before it holds and its own does not, and 0 exactly where all of them hold. Assumes nothing.
 use mathlib.Core.Path.{_≡_, refl, sym, _∙_, subst}
 use mathlib.Core.Bool.{true, false, _||_, true≢false}
 use mathlib.Core.Logic.{_↔_, _⊎_, inl, inr, ⊎-elim}
@@ -41,13 +41,13 @@ refineSelectionRules m selection =
 abbrev pub resultRules : Tables → ℕ → List Rule
 resultRules m room = rule 19 (Within limits m) ∷ rule 20 (resultLength m ≤ room) ∷ []
 
--- What refine's rules ask, in the order in which they are tried; the first ten are check's own.
+-- What refine's rules ask, in the order in which they are tried; the first twelve are check's own.
 abbrev pub refineRules : List ℕ → List ℕ → ℕ → List Rule
 refineRules mesh selection room = checkRules mesh ++ (refineSelectionRules (tablesOf mesh) selection ++ resultRules (closed mesh selection) room)
 
--- All twenty, named.
+-- All of them, named.
 pub record RefineAccepts (mesh selection : List ℕ) (room : ℕ) : Type 0 where
-  -- 1 to 10: check accepts the mesh
+  -- 1 to 10, 22 and 23: check accepts the mesh
   pub accepted : Accepted mesh
   -- 11 to 18: the selection is good for it
   pub good : EarnsNone (tablesOf mesh) selection
@@ -111,7 +111,7 @@ module _ (mesh selection : List ℕ) (room : ℕ) where
   unfolding laterNumber storedNumber resultRows
   later-exactly = given-exactly (result-judged (closed mesh selection) room) refl
 
-  -- Refine gives 0 exactly where all twenty hold: check accepts the mesh, the selection is good for it, the closed result is within the limits and
+  -- Refine gives 0 exactly where all of them hold: check accepts the mesh, the selection is good for it, the closed result is within the limits and
   -- the buffer is long enough.
   pub refine-accepts-all : (refineNumber mesh selection room ≡ 0) ↔ RefineAccepts mesh selection room
   refine-accepts-all =

@@ -41,7 +41,7 @@ roomRow h room = row 20 (ltb room (meshLength (h .vertices) (h .records)))
 unfoldable pub resultRows : Header → ℕ → List Row
 resultRows h room = row 19 (exceeds limits h) ∷ roomRow h room ∷ []
 
--- "Refine gives 1 to 20": 1 to 10 are check's own.
+-- "Refine gives 1 to 20": 1 to 10, and with them 22 and 23, are check's own.
 unfoldable pub refineNumber : List ℕ → List ℕ → ℕ → ℕ
 refineNumber mesh selection room =
     firstBroken (rows mesh ++ (refineSelectionRows (tablesOf mesh) selection ++ resultRows (closed mesh selection .header) room))

@@ -176,7 +176,7 @@ module _ (mesh selection : List ℕ) (room : ℕ) where
   unfolding refineBytes
   refused e = rw e
 
-  -- 1 to 10 come first, then 11 to 18, then 19 and 20.
+  -- Check's numbers come first, then 11 to 18, then 19 and 20.
   after-check : refineNumber mesh selection room ≡ cond (eqb (checkNumber mesh) 0) (firstBroken (refineSelectionRows (tablesOf mesh) selection ++ resultRows (closed mesh selection .header) room)) (checkNumber mesh)
   unfolding refineNumber checkNumber rows tableRows
   after-check = one-after-other (rows mesh) (refineSelectionRows (tablesOf mesh) selection ++ resultRows (closed mesh selection .header) room) refl

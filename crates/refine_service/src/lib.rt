@@ -14,7 +14,7 @@ ghost use Rattle.refine_service.specs.Refine.{RefineOutcomeIs};
 ghost use Rattle.refine_service.specs.Order.{selectionNumber, namedNumber};
 ghost use Rattle.refine_service.specs.Storing.{Assembled, Copied, storedNumber, storedBytes, laterNumber, laterBytes};
 
-// Refusals 1 to 10 are check's own.
+// Refusals 1 to 10, 22 and 23 are check's own.
 pub fn judged(mesh: &[u8]) -> u32
     ensures { λ r. ⌜ r ≡ checkNumber (now (mesh .entry)) ⌝ }
 {

@@ -47,7 +47,7 @@ module _ (mesh request : List ℕ) (room : ℕ) where
   unfolding takeBackBytes
   refused e = rw e
 
-  -- 1 to 10 come first, then 11 to 15, 30 and 18, then 20.
+  -- Check's numbers come first, then 11 to 15, 30 and 18, then 20.
   after-check : takeBackNumber mesh request room ≡ cond (eqb (checkNumber mesh) 0) (firstBroken (requestRows (tablesOf mesh) request ++ (roomRow (left mesh request .header) room ∷ []))) (checkNumber mesh)
   unfolding takeBackNumber checkNumber rows tableRows
   after-check = one-after-other (rows mesh) (requestRows (tablesOf mesh) request ++ (roomRow (left mesh request .header) room ∷ [])) refl

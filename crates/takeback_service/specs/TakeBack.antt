@@ -27,7 +27,7 @@ unfoldable pub requestRows : Tables → List ℕ → List Row
 requestRows m request =
     selectionRows (m .header) request ++ (row 30 (namesUncut (m .recordAt) (selectionOf request .count) (namedIn request)) ∷ roundRow (m .header) ∷ [])
 
--- "Refusals: 1 to 15, 18 and 20 as in refine, and 30": 1 to 10 are check's own.
+-- "Refusals: 1 to 15, 18 and 20 as in refine, and 30": 1 to 10, and with them 22 and 23, are check's own.
 unfoldable pub takeBackNumber : List ℕ → List ℕ → ℕ → ℕ
 takeBackNumber mesh request room = firstBroken (rows mesh ++ (requestRows (tablesOf mesh) request ++ (roomRow (left mesh request .header) room ∷ [])))
 

@@ -40,7 +40,7 @@ requestRules m t = selectionRules m t ++ (rule 30 (NamesCut m t) ∷ rule 18 (Ro
 abbrev pub roomRules : Tables → ℕ → List Rule
 roomRules m room = rule 20 (resultLength m ≤ room) ∷ []
 
--- What taking cuts back asks, in the order in which it tries; the first ten are check's own.
+-- What taking cuts back asks, in the order in which it tries; the first twelve are check's own.
 abbrev pub takeBackRules : List ℕ → List ℕ → ℕ → List Rule
 takeBackRules mesh request room = checkRules mesh ++ (requestRules (tablesOf mesh) request ++ roomRules (left mesh request) room)
 
@@ -63,7 +63,7 @@ pub record RequestEarnsNone (m : Tables) (t : List ℕ) : Type 0 where
 
 -- All that it asks, named.
 pub record TakeBackAccepts (mesh request : List ℕ) (room : ℕ) : Type 0 where
-  -- 1 to 10: check accepts the mesh
+  -- 1 to 10, 22 and 23: check accepts the mesh
   pub accepted : Accepted mesh
   -- 11 to 15, 30 and 18: the request is good for it
   pub good : RequestEarnsNone (tablesOf mesh) request
