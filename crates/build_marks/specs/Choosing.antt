@@ -152,15 +152,16 @@ module _ (coordinates : List ℤ) (p : Piece) (among : ℕ → Bool) where
 
 -- ---- the piece
 
--- The marked piece with these corners and edges.
-unfoldable pub markedBy : List ℕ → Edge → Edge → Edge → Edge → Edge → Edge → Piece
-markedBy corners a b c d e f =
+-- The marked piece with these corners, this material and these edges.
+unfoldable pub markedBy : List ℕ → ℕ → Edge → Edge → Edge → Edge → Edge → Edge → Piece
+markedBy corners material a b c d e f =
     record {
       corners = corners;
       edge = firstOf (firstOf (firstOf (firstOf (firstOf a b) c) d) e) f .code;
       marks = firstOf (firstOf d e) f .code ∷ firstOf (firstOf b c) f .code ∷ firstOf (firstOf a c) e .code ∷ firstOf (firstOf a b) d .code ∷ [];
       flag = 0;
       generation = 0;
+      material = material;
     }
 
 module _ (coordinates : List ℤ) (p : Piece) where
@@ -187,7 +188,7 @@ module _ (coordinates : List ℤ) (p : Piece) where
   unfolding anyBelow foldBelow onFace hasSlot lowSlot highSlot
   face-3-first = let on : ℕ → Bool = λ e. onFace e 3 in end coordinates p on (skip coordinates p on 5 (skip coordinates p on 4 (next coordinates p on 3 (skip coordinates p on 2 (next coordinates p on 1 (start coordinates p on 0 refl refl) refl) refl) refl) refl) refl)
 
-  pub marked-by : markedBy (p .corners) (edge 0) (edge 1) (edge 2) (edge 3) (edge 4) (edge 5) ≡ markedPiece coordinates p
+  pub marked-by : markedBy (p .corners) (p .material) (edge 0) (edge 1) (edge 2) (edge 3) (edge 4) (edge 5) ≡ markedPiece coordinates p
   unfolding markedBy markedPiece
   marked-by =
       λ i. record {
@@ -196,4 +197,5 @@ module _ (coordinates : List ℤ) (p : Piece) where
         marks = face-0-first i ∷ face-1-first i ∷ face-2-first i ∷ face-3-first i ∷ [];
         flag = 0;
         generation = 0;
+        material = p .material;
       }

@@ -34,7 +34,7 @@ plainPlace coordinates v =
 unfoldable pub plainVertex : List ℤ → ℕ → Vertex
 plainVertex coordinates v = record { place = plainPlace coordinates v; p = none; q = none }
 
--- Piece n's corners, four a piece, not marked yet.
+-- Piece n's corners, four a piece, not marked yet. Build is given no material: 0.
 unfoldable pub plainPiece : List ℕ → ℕ → Piece
 plainPiece corners n =
     record {
@@ -43,6 +43,7 @@ plainPiece corners n =
       marks = 0 ∷ 0 ∷ 0 ∷ 0 ∷ [];
       flag = 0;
       generation = 0;
+      material = 0;
     }
 
 -- Where the corner in slot k of a piece stands.
@@ -58,6 +59,7 @@ lastExchanged p =
       marks = p .marks;
       flag = p .flag;
       generation = p .generation;
+      material = p .material;
     }
 
 -- "Build takes a left-handed piece by exchanging its last two corners before marking."
@@ -95,6 +97,7 @@ markedPiece coordinates p =
           ∷ [];
       flag = 0;
       generation = 0;
+      material = p .material;
     }
 
 -- Piece n as it is stored: first made right-handed, then marked.

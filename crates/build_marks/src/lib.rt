@@ -80,6 +80,7 @@ pub fn plain_piece(corners: &[u16], n: u32) -> Piece
         marks: [0u8, 0u8, 0u8, 0u8],
         flag: 0,
         generation: 0,
+        material: 0,
     }
 }
 
@@ -106,6 +107,7 @@ fn last_exchanged(p: Piece) -> Piece
         marks: marks,
         flag: p.flag,
         generation: p.generation,
+        material: p.material,
     }
 }
 
@@ -168,9 +170,18 @@ fn first_of_piece(a: Edge, b: Edge, c: Edge, d: Edge, e: Edge, f: Edge) -> u8
     first.code
 }
 
-// The piece with these corners and edges: a face has the three edges without its slot.
-fn marked_by(corners: [u32; 4], a: Edge, b: Edge, c: Edge, d: Edge, e: Edge, f: Edge) -> Piece
-    ensures { λ r. ⌜ r ≡ markedBy corners a b c d e f ⌝ }
+// The piece with these corners, this material and these edges: a face has the three edges without its slot.
+fn marked_by(
+    corners: [u32; 4],
+    material: u8,
+    a: Edge,
+    b: Edge,
+    c: Edge,
+    d: Edge,
+    e: Edge,
+    f: Edge,
+) -> Piece
+    ensures { λ r. ⌜ r ≡ markedBy corners material a b c d e f ⌝ }
 {
     let edge = first_of_piece(a, b, c, d, e, f);
     let marks = [
@@ -185,6 +196,7 @@ fn marked_by(corners: [u32; 4], a: Edge, b: Edge, c: Edge, d: Edge, e: Edge, f: 
         marks: marks,
         flag: 0,
         generation: 0,
+        material: material,
     }
 }
 
@@ -203,6 +215,7 @@ fn marked_piece(coordinates: &[i16], p: Piece) -> Piece
     let d = plain_place(coordinates, v);
     marked_by(
         corners,
+        p.material,
         edge_between(0, s, t, a, b),
         edge_between(1, s, u, a, c),
         edge_between(2, s, v, a, d),

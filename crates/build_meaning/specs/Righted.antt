@@ -94,6 +94,10 @@ module _ (coordinates : List ℤ) (p : Piece) where
   pub given-corner : (k : ℕ) → k < 4 → cornerAt p k ≡ cornerAt (rightedPiece coordinates p) (slotGiven coordinates p k)
   given-corner k l = ap (cornerAt p) (sym (slot-twice k l)) ∙ sym (righted-corner (slotGiven coordinates p k) (slot-small k l))
 
+  pub righted-material : rightedPiece coordinates p .material ≡ p .material
+  unfolding rightedPiece lastExchanged
+  righted-material = ⊎-elim (λ t. rw t) (λ f. rw f) (either left)
+
   pub righted-four : length (p .corners) ≡ 4 → length (rightedPiece coordinates p .corners) ≡ 4
   unfolding rightedPiece lastExchanged
   righted-four four = ⊎-elim (λ t. rw t) (λ f. rw f four) (either left)

@@ -23,7 +23,7 @@ use Rattle.stored.specs.Meshes.{mesh-header, mesh-vertex-bytes, mesh-record-byt
 use Rattle.mesh_tables.specs.Tables.{Tables, tablesOf}
 use Rattle.build_marks.specs.Marking.{placeFor, plainPlace, plainVertex, plainPiece, rightedPiece, firstRanked, markedPiece, plainRecord}
 use Rattle.build_service.specs.Build.{plainHeader, plainMesh, plainBytes}
-use Rattle.build_meaning.specs.Righted.{slotGiven, slot-small, righted-corner, righted-four}
+use Rattle.build_meaning.specs.Righted.{slotGiven, slot-small, righted-corner, righted-four, righted-material}
 
 -- The job is a u32, every coordinate's place is a u16, as that of an i16 is, and the corners are u16.
 pub record Given (job : ℕ) (coordinates : List ℤ) (corners : List ℕ) : Type 0 where
@@ -49,6 +49,11 @@ ranked-byte coordinates p among = let l : firstRanked coordinates p among ≤ 6 
 plain-four : (coordinates : List ℤ) (corners : List ℕ) (n : ℕ) → length (plainRecord coordinates corners n .piece .corners) ≡ 4
 unfolding plainRecord markedPiece plainPiece
 plain-four coordinates corners n = righted-four coordinates (plainPiece corners n) refl
+
+-- Build is given no material.
+pub plain-material : (coordinates : List ℤ) (corners : List ℕ) (n : ℕ) → plainRecord coordinates corners n .piece .material ≡ 0
+unfolding plainRecord markedPiece plainPiece
+plain-material coordinates corners n = righted-material coordinates (plainPiece corners n)
 
 -- The corner in slot k.
 pub record-corner : (coordinates : List ℤ) (corners : List ℕ) (n k : ℕ) → k < 4 →
@@ -152,6 +157,7 @@ module _ (job : ℕ) (coordinates : List ℤ) (corners : List ℕ) (g : Given jo
           flag = omega arith;
           generation = omega arith;
           firstChild = inl refl;
+          material = let none = plain-material coordinates corners n in record { byte = omega arith; none = λ _. none };
         }
 
     -- Every number of the plain mesh fits its stored width.

@@ -58,7 +58,7 @@ withAll = tablesOf (refineBytes K-four select-3-to-6 375)
 
 -- "With refinement edge 0 and marks of faces (1, 0)": face 1 is acd and face 0 is bcd; faces 2 and 3 contain the refinement edge.
 abbrev withMarks : ℕ → ℕ → ℕ → Piece
-withMarks acd bcd flag = record { corners = 0 ∷ 1 ∷ 2 ∷ 3 ∷ []; edge = 0; marks = bcd ∷ acd ∷ 0 ∷ 0 ∷ []; flag = flag; generation = 0 }
+withMarks acd bcd flag = record { corners = 0 ∷ 1 ∷ 2 ∷ 3 ∷ []; edge = 0; marks = bcd ∷ acd ∷ 0 ∷ 0 ∷ []; flag = flag; generation = 0; material = 0 }
 
 -- A valid piece of this type.
 abbrev is : (Shape → Bool) → Piece → Bool

@@ -1,11 +1,11 @@
 -- Check accepts whatever is a stored mesh: the bytes of a set of cuts of a properly marked base mesh, with no hanging edge, within the limits.
 -- Assumes nothing.
 use mathlib.Core.Path.{sym, ap, subst}
-use mathlib.Core.Bool.{not}
+use mathlib.Core.Bool.{false, not}
 use mathlib.Core.List.{List}
-use Prim.Native.Nat.{ℕ, _≤_}
+use Prim.Native.Nat.{ℕ, _≤_, _<_}
 use native.Mathlib.Omega.{arith}
-use Rattle.stored.specs.Fitting.{U16, U32}
+use Rattle.stored.specs.Fitting.{U16, U32, MaterialFits}
 use Rattle.stored.specs.Layout.{none, limits, meshBytes}
 use Rattle.stored.specs.Meshes.{mesh-right-length, mesh-right-mark}
 use Rattle.mesh_tables.specs.Tables.{Tables, tablesOf}
@@ -35,7 +35,7 @@ held-right t b C N h marked shallow nv nr few =
       cuts = held-cuts t b C N h marked shallow nv nr few;
     }
 
-module _ (job round : ℕ) (b : BaseMesh) (C : Cuts (b .pieces)) (right : RightSet b C) (N : Numbering) (nv : VerticesNumbered b C N) (nr : RecordsNumbered b C N) (job-fits : U32 job) (round-fits : U16 round) where
+module _ (job round : ℕ) (b : BaseMesh) (C : Cuts (b .pieces)) (right : RightSet b C) (N : Numbering) (nv : VerticesNumbered b C N) (nr : RecordsNumbered b C N) (job-fits : U32 job) (round-fits : U16 round) (materials : (r : ℕ) → r < b .pieces → MaterialFits false (b .materialAt r)) where
   -- The bytes of a numbered set of cuts are accepted.
   pub written-accepted : Accepted (meshBytes (written job round b N))
   unfolding wrongLength wrongMark
@@ -43,7 +43,7 @@ module _ (job round : ℕ) (b : BaseMesh) (C : Cuts (b .pieces)) (right : RightS
       let m = written job round b N in
       let s = meshBytes m in
       let counted = written-counted job round b C right N nv nr job-fits round-fits in
-      let h = written-holds job round b C right N nv nr job-fits round-fits in
+      let h = written-holds job round b C right N nv nr job-fits round-fits materials in
       let few-vertices = vertices-within limits b C (right .fits) N nv in
       let few-records = records-within limits b C (right .fits) N nr in
       record {
@@ -59,4 +59,4 @@ pub accepted-of-stored : (s : List ℕ) → StoredMesh s → Accepted s
 accepted-of-stored s m =
     let x = m .stores in
     subst Accepted (sym (x .bytes))
-    (written-accepted (m .job) (m .round) (m .base) (m .cuts) (m .right) (x .numbers) (x .vertices-numbered) (x .records-numbered) (x .job-fits) (x .round-fits))
+    (written-accepted (m .job) (m .round) (m .base) (m .cuts) (m .right) (x .numbers) (x .vertices-numbered) (x .records-numbered) (x .job-fits) (x .round-fits) (x .materials))

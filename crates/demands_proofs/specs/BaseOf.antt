@@ -29,6 +29,7 @@ baseOf m =
       placeAt = λ v. m .vertexAt v .place;
       shapeAt = λ r. shapeOf (Check.pieceAt m r);
       cornerAt = λ r k. cornerAt (Check.pieceAt m r) k;
+      materialAt = λ r. Check.pieceAt m r .material;
     }
 
 abbrev pub numbersOf : Check.Tables → Numbering

@@ -23,7 +23,7 @@ use Rattle.build_service.specs.Build.{plainHeader, plainMesh, plainBytes, build
 use Rattle.build_meaning.specs.Righted.{righted-four, righted-sixfold, righted-positive}
 use Rattle.build_meaning.specs.Marks.{marked-valid}
 use Rattle.build_meaning.specs.Shared.{shared-face-one-mark}
-use Rattle.build_meaning.specs.Written.{Given}
+use Rattle.build_meaning.specs.Written.{Given, plain-material}
 use Rattle.build_meaning.specs.Accepts.{passed}
 use Rattle.build_meaning.specs.Output.{accepted-bytes}
 use Rattle.cuts_names.specs.Names as Names
@@ -169,6 +169,7 @@ module _ (coordinates : List ℤ) (corners : List ℕ) where
           marks = p .marks;
           flag = 0;
           generation = 0;
+          material = plain-material coordinates corners r i;
         };
         «first_child» = none;
       }
@@ -189,6 +190,7 @@ module _ (coordinates : List ℤ) (corners : List ℕ) where
       record {
         job-fits = small;
         round-fits = omega arith;
+        materials = λ r l. record { byte = omega arith; none = λ _. refl };
         numbers = plainNumbers;
         vertices-numbered = vertices-numbered;
         records-numbered = records-numbered pieces;

@@ -23,6 +23,7 @@ use Rattle.cuts.specs.Tables.{nodeOf}
 use Rattle.cuts.specs.LinkGrown.{Grown, grown-rests}
 use Rattle.demands_proofs.specs.Link.{link}
 use Rattle.demands_proofs.specs.Hanging.{leaf-hangs, none-hangs}
+use Rattle.demands_proofs.specs.Materials.{AllHandDown}
 use Rattle.demands_proofs.specs.PassStages.{Start, ChosenNode, UpToLast, Selectable, Stage, stage-start, stage-below, Later, later-itself, later-then, Turned, May, pass-turned}
 
 -- ---- the later passes
@@ -104,20 +105,22 @@ pub record Outcome (most : Limits) (m : Check.Tables) (start : Start m) (chosen 
   -- all cuts have generations below 15
   pub below : CutsBelow lastGeneration set
   pub four : (n : ℕ) → n < allRecords m′ → Four (pieceAt m′ n)
+  -- children have their parent's material
+  pub down : AllHandDown m′
   -- a vertex that was made stands at half the sum of its parents' places, rounded down
   pub halfway : (v : ℕ) → allVertices m ≤ v → v < allVertices m′ → m′ .vertexAt v .place ≡ halfwayOf (m′ .vertexAt (m′ .vertexAt v .p) .place) (m′ .vertexAt (m′ .vertexAt v .q) .place)
   -- old records keep their nodes
   pub records : allRecords m ≤ allRecords m′
   pub nodes : (n : ℕ) → n < allRecords m → nodeOf (link m′) n ≡ nodeOf (link m) n
 
-module _ (most : Limits) (room : most .records < none) (m : Check.Tables) (start : Start m) (four : (n : ℕ) → Four (pieceAt m n)) (shallow : UpToLast m) (chosen : ℕ → Bool) (leaf : Selectable m chosen) where
+module _ (most : Limits) (room : most .records < none) (m : Check.Tables) (start : Start m) (four : (n : ℕ) → Four (pieceAt m n)) (down : AllHandDown m) (shallow : UpToLast m) (chosen : ℕ → Bool) (leaf : Selectable m chosen) where
   abbrev one : Check.Tables
   one = pass most chosen m
 
   -- Pass one.
   first-pass : Turned m start chosen most m (start .set) chosen (allRecords m) one
   first-pass =
-      pass-turned most room m start shallow chosen leaf m (start .set) (stage-start m start chosen (λ n l. four n)) chosen
+      pass-turned most room m start shallow chosen leaf m (start .set) (stage-start m start chosen (λ n l. four n) down) chosen
       (λ n l c. (leaf n c .1, inl (n, c, refl)))
 
   -- The later ones.
@@ -151,6 +154,7 @@ module _ (most : Limits) (room : most .records < none) (m : Check.Tables) (start
         rests = λ e. grown-rests (st .grown) (none-hangs (refined most chosen m) (st .grown .lawful) (later-passes .rests e));
         below = stage-below m start shallow chosen leaf st;
         four = st .four;
+        down = st .down;
         halfway = st .halfway;
         records = omega (arith, first .records, last .records);
         nodes = λ n l. last .nodes n (omega (arith, first .records)) ∙ first .nodes n l;

@@ -33,6 +33,7 @@ use Rattle.demands_proofs.specs.MarkedBase.{properly-marked}
 use Rattle.demands_proofs.specs.Counts.{records-within}
 use Rattle.demands_proofs.specs.Read.{written-holds, header-read}
 use Rattle.demands_proofs.specs.AcceptedOf.{accepted-of-stored}
+use Rattle.demands_proofs.specs.Materials.{right-hands-down}
 use Rattle.demands_proofs.specs.PassStages as Stages
 use Rattle.demands_proofs.specs.PassStages.{Start, UpToLast, Selectable}
 use Rattle.demands_proofs.specs.Closing.{Outcome, outcome}
@@ -52,7 +53,7 @@ module _ (s : List ℕ) (x : StoredMesh s) where
   holds =
       let y = x .stores in
       subst (λ (t : List ℕ). Holds (tablesOf t) (x .base) N) (sym (y .bytes))
-      (written-holds (x .job) (x .round) (x .base) (x .cuts) (x .right) N (y .vertices-numbered) (y .records-numbered) (y .job-fits) (y .round-fits))
+      (written-holds (x .job) (x .round) (x .base) (x .cuts) (x .right) N (y .vertices-numbered) (y .records-numbered) (y .job-fits) (y .round-fits) (y .materials))
 
   -- Their header has the job and the round.
   heading : m .header ≡ headerFor (x .job) (x .round) (x .base) N
@@ -130,7 +131,7 @@ module _ (s : List ℕ) (x : StoredMesh s) where
 
     -- What the passes make of it.
     pub made : Outcome limits m start chosen (refined limits chosen m)
-    made = outcome limits (omega arith) m start (stored-four s) up-to-last chosen selectable
+    made = outcome limits (omega arith) m start (stored-four s) (right-hands-down m (accepted .mesh)) up-to-last chosen selectable
 
     -- The selection earns none of 11 to 18 from the mesh.
     pub earns-none : EarnsNone m selection

@@ -1,12 +1,13 @@
 -- Tables that have grown from a base hold their own numbering, and the bytes that refine writes of them store the set to which they have grown.
 -- Assumes nothing.
 use mathlib.Core.Path.{_≡_, refl, sym, ap, _∙_}
+use mathlib.Core.Bool.{false}
 use mathlib.Core.Logic.{⊎-elim}
 use mathlib.Core.List.{[], _∷_}
 use Prim.Native.Nat.{ℕ, _<_}
 use lib.Dec.{ltb}
 use borrow.Author.Tests.{ltb-true}
-use Rattle.stored.specs.Fitting.{U16, U32}
+use Rattle.stored.specs.Fitting.{U16, U32, MaterialFits}
 use Rattle.laws.specs.Below.{either, listBelow, list-same}
 use Rattle.laws.specs.Lists.{four-of}
 use Rattle.piece.specs.Shape.{mark}
@@ -24,6 +25,7 @@ use Rattle.demands_words.specs.Words.{BaseMesh, named, Numbering, VerticesNumbe
 use Rattle.demands_proofs.specs.Link.{link}
 use Rattle.demands_proofs.specs.BaseOf.{numbersOf, record-alike}
 use Rattle.demands_proofs.specs.Holds.{Holds}
+use Rattle.demands_proofs.specs.Materials.{Materials, material-of-base}
 use Rattle.demands_proofs.specs.Numbered.{grown-records}
 
 -- ---- entries
@@ -38,16 +40,17 @@ module _ (m : Check.Tables) (b : BaseMesh) (D : Cuts (b .pieces)) (g : Grown (na
       (either (ltb v (b .vertices)))
 
   -- A record of the numbering is the record in the table.
-  record-same : (r : ℕ) → r < allRecords m → Four (pieceAt m r) → m .recordAt r ≡ recordOf b (numbersOf m) r
-  record-same r h four =
+  record-same : Materials m b → (r : ℕ) → r < allRecords m → Four (pieceAt m r) → m .recordAt r ≡ recordOf b (numbersOf m) r
+  record-same materials r h four =
       let p = pieceAt m r in
       let shape = record-alike m b D g r h .shape in
       let generation = linked (link m) (g .lawful) r h .generation in
+      let material = material-of-base m b D g materials r h in
       let corners = sym (four-of (p .corners) 0 (four .corners)) in
       let marks = sym (four-of (p .marks) 0 (four .marks)) in
       let first = m .recordAt r .«first_child» in
       (λ i.
-      record { piece = record { corners = corners i; edge = p .edge; marks = marks i; flag = p .flag; generation = p .generation }; «first_child» = first })
+      record { piece = record { corners = corners i; edge = p .edge; marks = marks i; flag = p .flag; generation = p .generation; material = p .material }; «first_child» = first })
       ∙ (λ i.
       record {
         piece = record {
@@ -56,20 +59,21 @@ module _ (m : Check.Tables) (b : BaseMesh) (D : Cuts (b .pieces)) (g : Grown (na
           marks = mark (shape i) 0 ∷ mark (shape i) 1 ∷ mark (shape i) 2 ∷ mark (shape i) 3 ∷ [];
           flag = shape i .flag;
           generation = generation i;
+          material = material i;
         };
         «first_child» = first;
       })
 
   -- The tables hold their own numbering.
-  pub grown-holds : ((v : ℕ) → v < b .vertices → (parentP m v ≡ none) × (parentQ m v ≡ none)) → ((n : ℕ) → n < allRecords m → Four (pieceAt m n)) → Holds m b (numbersOf m)
-  grown-holds parents four =
+  pub grown-holds : ((v : ℕ) → v < b .vertices → (parentP m v ≡ none) × (parentQ m v ≡ none)) → ((n : ℕ) → n < allRecords m → Four (pieceAt m n)) → Materials m b → Holds m b (numbersOf m)
+  grown-holds parents four materials =
       record {
         base-vertices = base-vertices;
         vertices = refl;
         base-records = sym (g .represents .bases);
         records = refl;
         vertexAt = λ v h. vertex-same parents v;
-        recordAt = λ r h. record-same r h (four r h);
+        recordAt = λ r h. record-same materials r h (four r h);
       }
 
 -- ---- the whole mesh
@@ -116,13 +120,15 @@ module _ (m : Check.Tables) (b : BaseMesh) (D : Cuts (b .pieces)) (g : Grown (na
   -- What refine writes of grown tables stores their set, for the job and the round of its header.
   pub grown-stores : (job round : ℕ) → U32 job → U16 round → resultOf m .header .job ≡ job → resultOf m .header .round ≡ round →
       ((v : ℕ) → v < b .vertices → (parentP m v ≡ none) × (parentQ m v ≡ none)) → ((n : ℕ) → n < allRecords m → Four (pieceAt m n)) →
+      Materials m b → ((r : ℕ) → r < b .pieces → MaterialFits false (b .materialAt r)) →
       VerticesNumbered b D (numbersOf m) → Stores (meshBytes (resultOf m)) job round b D
-  grown-stores job round job-fits round-fits is-job is-round parents four vertices =
+  grown-stores job round job-fits round-fits is-job is-round parents four materials fit vertices =
       record {
         job-fits = job-fits;
         round-fits = round-fits;
+        materials = fit;
         numbers = numbersOf m;
         vertices-numbered = vertices;
         records-numbered = grown-records m b D g base-vertices;
-        bytes = grown-written m b (numbersOf m) (grown-holds m b D g base-vertices parents four) job round is-job is-round;
+        bytes = grown-written m b (numbersOf m) (grown-holds m b D g base-vertices parents four materials) job round is-job is-round;
       }

@@ -32,13 +32,13 @@ use Rattle.cuts.specs.LinkNodes.{same-kid}
 use Rattle.demands_words.specs.Words.{BaseMesh, named, ProperlyMarked, Shallow, Numbering, VerticesNumbered, RecordsNumbered, firstSide, secondSide}
 use Rattle.demands_proofs.specs.MarkedBase.{pair-mid}
 use Rattle.demands_proofs.specs.Holds.{Holds}
-use Rattle.demands_proofs.specs.HeldEntries.{parents-at, made-beyond, beyond-made, corner-at, generation-at, first-at, shape-at}
+use Rattle.demands_proofs.specs.HeldEntries.{parents-at, made-beyond, beyond-made, corner-at, generation-at, material-at, first-at, shape-at}
 
--- Two pieces with four corners each, the same ones, with one shape and one generation are one.
-one-piece : (p q : Declared.Piece) → Four p → Four q → ((j : ℕ) → j < 4 → cornerAt p j ≡ cornerAt q j) → shapeOf p ≡ shapeOf q → p .generation ≡ q .generation → p ≡ q
-one-piece p q fp fq corner shape generation =
+-- Two pieces with four corners each, the same ones, with one shape, one generation and one material are one.
+one-piece : (p q : Declared.Piece) → Four p → Four q → ((j : ℕ) → j < 4 → cornerAt p j ≡ cornerAt q j) → shapeOf p ≡ shapeOf q → p .generation ≡ q .generation → p .material ≡ q .material → p ≡ q
+one-piece p q fp fq corner shape generation material =
     let corners : p .corners ≡ q .corners = ext-getD 0 (p .corners) (q .corners) (fp .corners ∙ sym (fq .corners)) (λ j l. corner j (omega (arith, fp .corners))) in
-    λ i. record { corners = corners i; edge = shape i .edge; marks = shape i .marks; flag = shape i .flag; generation = generation i }
+    λ i. record { corners = corners i; edge = shape i .edge; marks = shape i .marks; flag = shape i .flag; generation = generation i; material = material i }
 
 -- A side is one of the two, whichever comes first.
 either-side : (x : Bool) (side : Side) → (cond x high low ≡ side) ⊎ (cond x low high ≡ side)
@@ -147,7 +147,7 @@ module _ (t : Tables) (b : BaseMesh) (C : Cuts (b .pieces)) (N : Numbering) (h :
         (k : ℕ) → k < 4 → endAt (shapeOf (held r)) side ≡ k → held c ≡ childOf (held r) w k
     unfolding childOf child childWith
     child-held w lw named-w c lc side node k small slot =
-        one-piece (held c) (childOf (held r) w k) (four c lc) (child-four (held r) w k (four r l)) corner shape generations
+        one-piece (held c) (childOf (held r) w k) (four c lc) (child-four (held r) w k (four r l)) corner shape generations materials
       where
         piece : over c ≡ child (over r) side
         piece = ap (pieceAt (named b)) node ∙ piece-kid (named b) (N .nodeAt r) side
@@ -182,6 +182,9 @@ module _ (t : Tables) (b : BaseMesh) (C : Cuts (b .pieces)) (N : Numbering) (h :
             let deep = shallow (N .nodeAt c) (nr .there c lc) in
             let one-more : generation (N .nodeAt c) ≡ suc (generation (N .nodeAt r)) = ap generation node in
             omega arith
+
+        materials : held c .material ≡ childOf (held r) w k .material
+        materials = material-at t b C N h c lc ∙ ap (λ (n : Node). b .materialAt (n .root)) node ∙ sym (material-at t b C N h r l)
 
     -- Of the refinement edge, the end of lower number is in the same slot by the tables as by the numbers.
     abbrev lowFirst : Bool

@@ -29,7 +29,7 @@ use Rattle.check_meaning.specs.Accepted.{RightCounts, RightVertices, RightBaseR
 use Rattle.build_meaning.specs.Edges.{ends-same}
 use Rattle.cuts_names.specs.Names as Names
 use Rattle.cuts_names.specs.Names.{mid}
-use Rattle.cuts_names.specs.Pieces.{Piece, generation, pieceAt, piece-root}
+use Rattle.cuts_names.specs.Pieces.{Piece, Node, generation, pieceAt, piece-root}
 use Rattle.cuts.specs.Sets.{Cuts}
 use Rattle.demands_words.specs.Words as Base
 use Rattle.demands_words.specs.Words.{BaseMesh, named, ProperlyMarked, Numbering, VerticesNumbered, RecordsNumbered, recordOf}
@@ -79,6 +79,13 @@ module _ (t : Tables) (b : BaseMesh) (C : Cuts (b .pieces)) (N : Numbering) (h :
 
   pub generation-at : (r : ℕ) → r < N .records → Check.pieceAt t r .generation ≡ generation (N .nodeAt r)
   generation-at r l = ap (λ (x : Record). x .piece .generation) (h .recordAt r l)
+
+  pub material-at : (r : ℕ) → r < N .records → Check.pieceAt t r .material ≡ b .materialAt (N .nodeAt r .root)
+  material-at r l = ap (λ (x : Record). x .piece .material) (h .recordAt r l)
+
+  -- A base record's is that of the base piece.
+  pub base-material : RecordsNumbered b C N → (r : ℕ) → r < b .pieces → Check.pieceAt t r .material ≡ b .materialAt r
+  base-material nr r l = material-at r (omega (arith, nr .base-first)) ∙ ap (λ (n : Node). b .materialAt (n .root)) (nr .base-node r l)
 
   pub first-at : (r : ℕ) → r < N .records → firstChild t r ≡ N .firstAt r
   first-at r l = ap (λ (x : Record). x .«first_child») (h .recordAt r l)

@@ -21,6 +21,7 @@ pub mod HeldEntries
 pub mod HeldCuts
 pub mod AcceptedOf
 pub mod CutAppends
+pub mod Materials
 pub mod Hanging
 pub mod PassStages
 pub mod Closing

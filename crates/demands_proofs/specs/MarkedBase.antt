@@ -20,7 +20,7 @@ use Rattle.demands_words.specs.Words.{BaseMesh, named, BaseCornerOf, OnBaseFace
 -- A validly marked shape whose flag is not set is valid.
 valid-shape : (s : Shape) → ValidlyMarked s → s .flag ≡ 0 → Valid s
 valid-shape s v unset =
-    let p : Declared.Piece = record { corners = []; edge = s .edge; marks = s .marks; flag = s .flag; generation = 0 } in
+    let p : Declared.Piece = record { corners = []; edge = s .edge; marks = s .marks; flag = s .flag; generation = 0; material = 0 } in
     marks-valid p unset (v .four) (record { edge = v .edge; marks = v .marks; refinement-faces = v .refinement-faces })
 
 -- Names in the same pair have one midpoint.

@@ -15,6 +15,7 @@ use Rattle.cuts.specs.LinkSets.{exactly-one}
 use Rattle.demands_words.specs.Words.{BaseMesh, Numbering, VerticesNumbered, RecordsNumbered, SameBase}
 use Rattle.demands_proofs.specs.Link.{link}
 use Rattle.demands_proofs.specs.Holds.{Holds}
+use Rattle.demands_proofs.specs.HeldEntries.{base-material}
 use Rattle.demands_proofs.specs.HoldsGrown.{represents, grown}
 
 -- Base vertices with the same name have the same number.
@@ -42,6 +43,7 @@ module _ (m : Check.Tables) (lawful : Lawful (link m))
         placeAt = λ v h. sym (place-held m b C N holds vertices v h) ∙ place-held m b′ C′ N′ holds′ vertices′ v (vertex v h);
         shapeAt = λ r h. sym (g .alike r h .shape) ∙ g′ .alike r (piece r h) .shape;
         cornerAt = λ r h k l. base-once (b .cornerAt r k) (b′ .cornerAt r k) (sym (g .alike r h .corner k l) ∙ g′ .alike r (piece r h) .corner k l);
+        materialAt = λ r h. sym (base-material m b C N holds records r h) ∙ base-material m b′ C′ N′ holds′ records′ r (piece r h);
       }
 
   -- One set.

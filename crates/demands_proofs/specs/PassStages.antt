@@ -35,6 +35,7 @@ use Rattle.cuts_names.specs.Names.{Name}
 use Rattle.cuts_names.specs.Base.{Marked}
 use Rattle.demands_proofs.specs.Link.{link}
 use Rattle.demands_proofs.specs.CutAppends.{Halfway, cutVertex, bases-stay, cut-after, cut-appends, cut-all-four, halfway-stays, halfway-made}
+use Rattle.demands_proofs.specs.Materials.{AllHandDown, cut-hands-down}
 
 -- The nodes of the chosen records.
 abbrev pub ChosenNode : Check.Tables → (ℕ → Bool) → Node → Type 0
@@ -68,18 +69,21 @@ pub record Stage (m : Check.Tables) (start : Start m) (chosen : ℕ → Bool) (t
   pub base-vertices : baseVertices t ≡ baseVertices m
   pub vertices : allVertices m ≤ allVertices t
   pub four : (n : ℕ) → n < allRecords t → Four (pieceAt t n)
+  -- children have their parent's material
+  pub down : AllHandDown t
   -- a vertex that was made stands halfway between its parents
   pub halfway : (v : ℕ) → allVertices m ≤ v → v < allVertices t → Halfway t v
 
 -- The tables m themselves.
-pub stage-start : (m : Check.Tables) (start : Start m) (chosen : ℕ → Bool) → ((n : ℕ) → n < allRecords m → Four (pieceAt m n)) → Stage m start chosen m (start .set)
-stage-start m start chosen four =
+pub stage-start : (m : Check.Tables) (start : Start m) (chosen : ℕ → Bool) → ((n : ℕ) → n < allRecords m → Four (pieceAt m n)) → AllHandDown m → Stage m start chosen m (start .set)
+stage-start m start chosen four down =
     record {
       reached = stop;
       grown = start .grown;
       base-vertices = refl;
       vertices = le-refl (allVertices m);
       four = four;
+      down = down;
       halfway = λ v b l. absurd (omega arith);
     }
 
@@ -152,6 +156,7 @@ module _ (m : Check.Tables) (start : Start m) (shallow : UpToLast m) (chosen : �
           base-vertices = bases-stay t n .0 ∙ st .base-vertices;
           vertices = omega (arith, st .vertices, cut-vertex-count t n);
           four = cut-all-four t n l (st .four);
+          down = cut-hands-down t (g .lawful) n l (st .down);
           halfway = λ v b c.
               ⊎-elim
               (λ o. halfway-stays t (g .lawful) n v (omega (arith, st .base-vertices, start .grown .lawful .vertexCounts)) o (st .halfway v b o))

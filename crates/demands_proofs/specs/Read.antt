@@ -1,5 +1,6 @@
 -- What check reads from the bytes of a numbered set of cuts: the tables hold just what was numbered. Assumes nothing.
 use mathlib.Core.Path.{_≡_, refl, sym, ap, _∙_, subst}
+use mathlib.Core.Bool.{false}
 use mathlib.Core.Logic.{inl, inr, ⊎-elim}
 use mathlib.Core.List.{[]}
 use Prim.Native.Nat.{ℕ, zero, suc, _-_, _≤_, _<_}
@@ -18,7 +19,7 @@ use Rattle.grid.specs.PlaceLaws.{Held}
 use Rattle.grid.specs.Corners.{Midpoint}
 use Rattle.grid.specs.GridTheorems.{halfway-exactly, halfway-only}
 use Rattle.stored.specs.Layout.{limits, meshBytes}
-use Rattle.stored.specs.Fitting.{OrNone, VertexFits, RecordFits, Counted, MeshFits, U16, U32}
+use Rattle.stored.specs.Fitting.{OrNone, VertexFits, MaterialFits, RecordFits, Counted, MeshFits, U16, U32}
 use Rattle.stored.specs.Meshes.{mesh-header, mesh-vertex, mesh-record}
 use Rattle.mesh_tables.specs.Tables.{tablesOf}
 use Rattle.check_meaning.specs.Tests.{equal, and-passes, or-passes}
@@ -64,7 +65,7 @@ record Small (s : Shape) : Type 0 where
 valid-small : (s : Shape) → Valid s → Small s
 unfolding flagFits
 valid-small s v =
-    let p : Declared.Piece = record { corners = []; edge = s .edge; marks = s .marks; flag = s .flag; generation = 0 } in
+    let p : Declared.Piece = record { corners = []; edge = s .edge; marks = s .marks; flag = s .flag; generation = 0; material = 0 } in
     let r : RightMarks p = valid-marks p v in
     record {
       edge = r .edge;
@@ -112,33 +113,7 @@ module _ (job round : ℕ) (b : BaseMesh) (C : Cuts (b .pieces)) (right : RightS
         q = ⊎-elim (λ l. inl (rw (lt-ltb v (b .vertices) l))) (λ l. inr (rw (le-ltb v (b .vertices) l) (let m = nv .made v l h in omega (arith, few-vertices, m .q<v)))) (base-or-beyond v (b .vertices));
       }
 
-  record-fits : (r : ℕ) → r < N .records → RecordFits (recordOf b N r)
-  record-fits r h =
-      let s = pieceAt (named b) (N .nodeAt r) .shape in
-      let small = valid-small s (record-valid b C N (right .marked) nr r h) in
-      let byte : (i : ℕ) → i < 4 → mark s i < 256 = λ i l. omega (arith, small .marks i l) in
-      record {
-        fourCorners = refl;
-        corners = corner;
-        edge = omega (arith, small .edge);
-        fourMarks = refl;
-        marks = bytes-cons (byte 0 (omega arith)) (bytes-cons (byte 1 (omega arith)) (bytes-cons (byte 2 (omega arith)) (bytes-cons (byte 3 (omega arith)) bytes-none)));
-        flag = omega (arith, small .flag);
-        generation = omega (arith, right .shallow (N .nodeAt r) (nr .there r h));
-        firstChild = ⊎-elim (λ c. let cut = nr .cut r h c in inr (omega (arith, cut .there, few-records))) (λ f. inl (nr .uncut r h f)) (either (C .has (N .nodeAt r)));
-      }
-    where
-      below : (k : ℕ) → k < 4 → OrNone (N .cornerAt r k)
-      below k l = inr (omega (arith, nr .corner-there r h k l, few-vertices))
-
-      corner : (k : ℕ) → OrNone (getD (recordOf b N r .piece .corners) k 0)
-      corner zero = below 0 (omega arith)
-      corner (suc zero) = below 1 (omega arith)
-      corner (suc (suc zero)) = below 2 (omega arith)
-      corner (suc (suc (suc zero))) = below 3 (omega arith)
-      corner (suc (suc (suc (suc k)))) = inr (omega arith)
-
-  -- Every number of the mesh fits its stored width.
+  -- Its header's numbers fit, and its tables are as long as these say.
   pub written-counted : Counted (written job round b N)
   written-counted =
       record {
@@ -154,36 +129,65 @@ module _ (job round : ℕ) (b : BaseMesh) (C : Cuts (b .pieces)) (right : RightS
         recordCount = list-length (recordOf b N) (N .records);
       }
 
-  pub written-fits : MeshFits (written job round b N)
-  written-fits =
-      let vertices = list-length (vertexOf b N) (N .vertices) in
-      let records = list-length (recordOf b N) (N .records) in
-      record {
-        counts = written-counted;
-        vertices = λ k d l. let h : k < N .vertices = omega arith in subst VertexFits (sym (list-at (vertexOf b N) (N .vertices) k d h)) (vertex-fits k h);
-        records = λ k d l. let h : k < N .records = omega arith in subst RecordFits (sym (list-at (recordOf b N) (N .records) k d h)) (record-fits k h);
-      }
-
   -- The header that is read is the one that was written.
   pub header-read : tablesOf (meshBytes (written job round b N)) .header ≡ headerFor job round b N
   unfolding tablesOf
   header-read = mesh-header (written job round b N) written-counted
 
-  -- The tables that are read hold what was numbered.
-  pub written-holds : Holds (tablesOf (meshBytes (written job round b N))) b N
-  unfolding tablesOf
-  written-holds =
-      record {
-        base-vertices = λ i. header-read i .«base_vertices»;
-        vertices = λ i. header-read i .vertices;
-        base-records = λ i. header-read i .«base_records»;
-        records = λ i. header-read i .records;
-        vertexAt =
-            λ v h.
-            mesh-vertex (written job round b N) written-fits v (vertexOf b N v) (rw (list-length (vertexOf b N) (N .vertices)) h)
-            ∙ list-at (vertexOf b N) (N .vertices) v (vertexOf b N v) h;
-        recordAt =
-            λ r h.
-            mesh-record (written job round b N) written-fits r (recordOf b N r) (rw (list-length (recordOf b N) (N .records)) h)
-            ∙ list-at (recordOf b N) (N .records) r (recordOf b N r) h;
-      }
+  module _ (materials : (r : ℕ) → r < b .pieces → MaterialFits false (b .materialAt r)) where
+    record-fits : (r : ℕ) → r < N .records → RecordFits (recordOf b N r)
+    record-fits r h =
+        let s = pieceAt (named b) (N .nodeAt r) .shape in
+        let small = valid-small s (record-valid b C N (right .marked) nr r h) in
+        let byte : (i : ℕ) → i < 4 → mark s i < 256 = λ i l. omega (arith, small .marks i l) in
+        record {
+          fourCorners = refl;
+          corners = corner;
+          edge = omega (arith, small .edge);
+          fourMarks = refl;
+          marks = bytes-cons (byte 0 (omega arith)) (bytes-cons (byte 1 (omega arith)) (bytes-cons (byte 2 (omega arith)) (bytes-cons (byte 3 (omega arith)) bytes-none)));
+          flag = omega (arith, small .flag);
+          generation = omega (arith, right .shallow (N .nodeAt r) (nr .there r h));
+          firstChild = ⊎-elim (λ c. let cut = nr .cut r h c in inr (omega (arith, cut .there, few-records))) (λ f. inl (nr .uncut r h f)) (either (C .has (N .nodeAt r)));
+          material = materials (N .nodeAt r .root) (there-rooted C (N .nodeAt r) (nr .there r h));
+        }
+      where
+        below : (k : ℕ) → k < 4 → OrNone (N .cornerAt r k)
+        below k l = inr (omega (arith, nr .corner-there r h k l, few-vertices))
+
+        corner : (k : ℕ) → OrNone (getD (recordOf b N r .piece .corners) k 0)
+        corner zero = below 0 (omega arith)
+        corner (suc zero) = below 1 (omega arith)
+        corner (suc (suc zero)) = below 2 (omega arith)
+        corner (suc (suc (suc zero))) = below 3 (omega arith)
+        corner (suc (suc (suc (suc k)))) = inr (omega arith)
+
+    -- Every number of the mesh fits its stored width.
+    pub written-fits : MeshFits (written job round b N)
+    written-fits =
+        let vertices = list-length (vertexOf b N) (N .vertices) in
+        let records = list-length (recordOf b N) (N .records) in
+        record {
+          counts = written-counted;
+          vertices = λ k d l. let h : k < N .vertices = omega arith in subst VertexFits (sym (list-at (vertexOf b N) (N .vertices) k d h)) (vertex-fits k h);
+          records = λ k d l. let h : k < N .records = omega arith in subst RecordFits (sym (list-at (recordOf b N) (N .records) k d h)) (record-fits k h);
+        }
+
+    -- The tables that are read hold what was numbered.
+    pub written-holds : Holds (tablesOf (meshBytes (written job round b N))) b N
+    unfolding tablesOf
+    written-holds =
+        record {
+          base-vertices = λ i. header-read i .«base_vertices»;
+          vertices = λ i. header-read i .vertices;
+          base-records = λ i. header-read i .«base_records»;
+          records = λ i. header-read i .records;
+          vertexAt =
+              λ v h.
+              mesh-vertex (written job round b N) written-fits v (vertexOf b N v) (rw (list-length (vertexOf b N) (N .vertices)) h)
+              ∙ list-at (vertexOf b N) (N .vertices) v (vertexOf b N v) h;
+          recordAt =
+              λ r h.
+              mesh-record (written job round b N) written-fits r (recordOf b N r) (rw (list-length (recordOf b N) (N .records)) h)
+              ∙ list-at (recordOf b N) (N .records) r (recordOf b N r) h;
+        }

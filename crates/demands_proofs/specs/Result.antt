@@ -8,6 +8,7 @@ use native.Mathlib.Omega.{arith}
 use borrow.Author.Tests.{lt-ltb}
 use Rattle.stored.specs.Fitting.{round-rises}
 use Rattle.piece.specs.Shape.{lastGeneration}
+use Rattle.piece.specs.declared.Piece.{Piece}
 use Rattle.grid.specs.declared.Place.{Place}
 use Rattle.grid.specs.Places.{pointOf, halfwayOf}
 use Rattle.grid.specs.Corners.{Midpoint}
@@ -38,6 +39,8 @@ use Rattle.demands_proofs.specs.Numbered.{grown-vertices}
 use Rattle.demands_proofs.specs.SetOf.{grown-fits}
 use Rattle.demands_proofs.specs.GrownStores.{grown-stores}
 use Rattle.demands_proofs.specs.Exact.{place-mid, exact-midpoint}
+use Rattle.demands_proofs.specs.Materials.{Materials}
+use Rattle.demands_proofs.specs.HeldEntries.{base-material}
 use Rattle.demands_proofs.specs.FromStored as From
 use Rattle.demands_proofs.specs.Inside.{after, set}
 
@@ -145,6 +148,16 @@ module _ (s : List ℕ) (x : StoredMesh s) (selection : List ℕ) (good : GoodSe
   four : (n : ℕ) → n < allRecords t → Four (pieceAt t n)
   four = From.made s x selection good .four
 
+  -- Base records keep their material, and children have their parent's.
+  materials : Materials t b
+  materials =
+      record {
+        base = λ r l.
+            ap (λ (p : Piece). p .material) (keeps .pieceAt r (omega (arith, l, x .stores .records-numbered .base-first, From.holds s x .records)))
+            ∙ base-material m b (x .cuts) (x .stores .numbers) (From.holds s x) (x .stores .records-numbered) r l;
+        down = From.made s x selection good .down;
+      }
+
   numbered : VerticesNumbered b D (numbersOf t)
   numbered = grown-vertices t b D g base-vertices base-place exactly
 
@@ -157,7 +170,7 @@ module _ (s : List ℕ) (x : StoredMesh s) (selection : List ℕ) (good : GoodSe
       grown-stores t b D g base-vertices (x .job) (x .round + 1) (x .stores .job-fits) (omega (arith, not-last))
       (job-stays limits (From.chosen s x selection good) m ∙ From.stored-job s x)
       (ap roundAfter (round-stays limits (From.chosen s x selection good) m ∙ From.stored-round s x) ∙ round-rises (x .round) not-last)
-      base-parents four numbered
+      base-parents four materials (x .stores .materials) numbered
 
   -- Where the tables do not exceed their limits, the set is a right one.
   module _ (few : exceeds limits (t .header) ≡ false) where

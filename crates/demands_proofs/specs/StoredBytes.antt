@@ -12,4 +12,4 @@ stored-bytes s x =
     let y = x .stores in
     subst Bytes (sym (y .bytes))
     (mesh-is-bytes (written (x .job) (x .round) (x .base) (y .numbers))
-    (written-fits (x .job) (x .round) (x .base) (x .cuts) (x .right) (y .numbers) (y .vertices-numbered) (y .records-numbered) (y .job-fits) (y .round-fits)))
+    (written-fits (x .job) (x .round) (x .base) (x .cuts) (x .right) (y .numbers) (y .vertices-numbered) (y .records-numbered) (y .job-fits) (y .round-fits) (y .materials)))

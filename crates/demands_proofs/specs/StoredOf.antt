@@ -13,6 +13,7 @@ use Rattle.check_refusals.specs.Refusals.{wrongLength, wrongMark}
 use Rattle.check_meaning.specs.Accepted.{RightLength, RightMark, Accepted}
 use Rattle.check_meaning.specs.Heading.{rule1-holds, rule2-holds}
 use Rattle.check_meaning.specs.Cuts.{stored-four}
+use Rattle.list_service.specs.Lengths.{record-of}
 use Rattle.cuts.specs.Sets.{Cuts}
 use Rattle.cuts.specs.LinkSets.{cutsOf, represented}
 use Rattle.cuts.specs.LinkGrown.{Grown}
@@ -23,6 +24,7 @@ use Rattle.demands_proofs.specs.BaseOf.{baseOf, numbersOf, base-grown}
 use Rattle.demands_proofs.specs.Marked.{base-marked}
 use Rattle.demands_proofs.specs.Numbered.{grown-vertices, grown-records}
 use Rattle.demands_proofs.specs.SetOf.{set-rests, set-shallow, grown-fits}
+use Rattle.demands_proofs.specs.Materials.{right-hands-down}
 use Rattle.demands_proofs.specs.GrownStores.{grown-holds, holds-written}
 
 -- Accepted tables hold their own numbering, and the mesh that the bytes hold is written of it.
@@ -31,7 +33,7 @@ stored-written : (s : List ℕ) → Accepted s → (C : Cuts (baseRecords (table
 unfolding tablesOf meshOf headerOf
 stored-written s a C g =
     let m = tablesOf s in
-    let holds = grown-holds m (baseOf m) C g refl (λ v h. let x = a .mesh .vertices .base v h in (x .p, x .q)) (λ n h. stored-four s n) in
+    let holds = grown-holds m (baseOf m) C g refl (λ v h. let x = a .mesh .vertices .base v h in (x .p, x .q)) (λ n h. stored-four s n) (record { base = λ r h. refl; down = right-hands-down m (a .mesh) }) in
     holds-written m (baseOf m) (numbersOf m) holds (headerOf s .job) (headerOf s .round)
 
 -- The bytes are those of the mesh that they hold.
@@ -62,6 +64,7 @@ stored-of-accepted s b a =
       stores = record {
         job-fits = fits .job;
         round-fits = fits .round;
+        materials = λ r h. record-of s b r .material;
         numbers = numbersOf m;
         vertices-numbered =
             grown-vertices m (baseOf m) C g refl (λ v h. refl) (λ v beyond there. a .mesh .vertices .made v (record { beyond = beyond; there = there }) .halfway);

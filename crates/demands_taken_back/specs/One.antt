@@ -189,7 +189,7 @@ module _ (b : BaseMesh) (N N′ : Numbering) (same : SameNumbering b N N′) whe
       λ i.
       let s = pieceAt (named b) (node i) .shape in
       record {
-        piece = record { corners = c0 i ∷ c1 i ∷ c2 i ∷ c3 i ∷ []; edge = s .edge; marks = mark s 0 ∷ mark s 1 ∷ mark s 2 ∷ mark s 3 ∷ []; flag = s .flag; generation = generation (node i) };
+        piece = record { corners = c0 i ∷ c1 i ∷ c2 i ∷ c3 i ∷ []; edge = s .edge; marks = mark s 0 ∷ mark s 1 ∷ mark s 2 ∷ mark s 3 ∷ []; flag = s .flag; generation = generation (node i); material = b .materialAt (node i .root) };
         «first_child» = first i;
       }
 

@@ -90,7 +90,7 @@ module _ (s : List ℕ) (x : StoredMesh s) (request : List ℕ) where
       records-are = records-renumbered b (x .right .marked) C D (remains .within) N (x .stores .vertices-numbered) (x .stores .records-numbered) vertexStays recordStays still
 
       pub remains-stores : Stores mesh (x .job) (x .round + 1) b D
-      remains-stores = record { job-fits = x .stores .job-fits; round-fits = round-fits; numbers = numbers; vertices-numbered = vertices-are; records-numbered = records-are; bytes = refl }
+      remains-stores = record { job-fits = x .stores .job-fits; round-fits = round-fits; materials = x .stores .materials; numbers = numbers; vertices-numbered = vertices-are; records-numbered = records-are; bytes = refl }
 
       abbrev pub remains-mesh : StoredMesh mesh
       remains-mesh = record { job = x .job; round = x .round + 1; base = b; cuts = D; right = remains-right; stores = remains-stores }

@@ -42,6 +42,7 @@ pub record RecordLeft (vertexStays recordStays : ℕ → Bool) (was is : Record)
   pub marks : is .piece .marks ≡ was .piece .marks
   pub flag : is .piece .flag ≡ was .piece .flag
   pub generation : is .piece .generation ≡ was .piece .generation
+  pub material : is .piece .material ≡ was .piece .material
   pub first : NewNumber recordStays (was .«first_child») (is .«first_child»)
 
 pub record TablesLeft (m m′ : Check.Tables) (vertexStays recordStays : ℕ → Bool) : Type 0 where
@@ -162,7 +163,7 @@ module _ (b : BaseMesh) (marked : ProperlyMarked b) (C D : Cuts (b .pieces)) (in
           sym (four-of (p .corners) 0 (e .four)) ∙ (λ i. corner 0 (omega arith) i ∷ corner 1 (omega arith) i ∷ corner 2 (omega arith) i ∷ corner 3 (omega arith) i ∷ []) in
           λ i.
           record {
-            piece = record { corners = corners i; edge = e .edge i; marks = e .marks i; flag = e .flag i; generation = e .generation i };
+            piece = record { corners = corners i; edge = e .edge i; marks = e .marks i; flag = e .flag i; generation = e .generation i; material = e .material i };
             «first_child» = first-left i;
           }
         where

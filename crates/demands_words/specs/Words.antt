@@ -13,7 +13,8 @@
 --   double is the sum, in each coordinate (`grid/specs/Corners`); `signedOf`: the determinant of corners 1, 2, 3 less corner 0, and `sixfoldOf`: its absolute value
 --   (`grid_volume/specs/Volume`); `WeightedMean`: a point is a weighted mean of four corners, with weights that are not negative (`grid_inside/specs/Weights`) (on demand 3's page `markedAt`: a
 --   face's mark, named by its midpoint, and `SameFace`: the same three corners, over names; `cuts_names/specs/Base`).
--- - `meshBytes`, `selectionOf`, `namedIn`: document 01's layout of a mesh's and a selection's bytes (`stored/specs/Layout`).
+-- - `meshBytes`, `selectionOf`, `namedIn`: document 01's layout of a mesh's and a selection's bytes (`stored/specs/Layout`); `MaterialFits stored m`: m is a byte,
+--   and 0 where none is stored (`stored/specs/Fitting`).
 use mathlib.Core.Path.{_≡_}
 use mathlib.Core.Logic.{_↔_, _≢_}
 use mathlib.Core.Bool.{true, false, cond, false≢true}
@@ -35,7 +36,7 @@ use Rattle.check_meaning.specs.Accepted.{OnGrid, EdgeOf}
 use Rattle.cuts_names.specs.Names as Names
 use Rattle.cuts_names.specs.Names.{Name, mid}
 use Rattle.cuts_names.specs.Pieces.{Piece, Side, low, high, Node, generation, kid, pieceAt, makes}
-use Rattle.stored.specs.Fitting.{U16, U32}
+use Rattle.stored.specs.Fitting.{U16, U32, MaterialFits}
 use Rattle.laws.specs.Below.{listBelow}
 use Rattle.grid.specs.Corners.{Midpoint}
 use Rattle.stored.specs.declared.Limits.{Limits}
@@ -55,13 +56,14 @@ checkNumbers = 1 ∷ 2 ∷ 3 ∷ 4 ∷ 5 ∷ 22 ∷ 6 ∷ 7 ∷ 8 ∷ 23 ∷ 9 �
 
 -- ======== demand 2: a base mesh, properly marked
 
--- How many vertices and pieces; a place for each vertex; a shape (refinement edge, marks, flag) and four vertex numbers for each piece.
+-- How many vertices and pieces; a place for each vertex; a shape (refinement edge, marks, flag), four vertex numbers and a material for each piece.
 pub record BaseMesh : Type 0 where
   pub vertices : ℕ
   pub pieces : ℕ
   pub placeAt : ℕ → Place
   pub shapeAt : ℕ → Shape
   pub cornerAt : ℕ → ℕ → ℕ
+  pub materialAt : ℕ → ℕ
 
 -- Where vertex v stands.
 abbrev pub pointAt : BaseMesh → ℕ → Point
@@ -241,6 +243,7 @@ pub record RecordsNumbered (b : BaseMesh) (C : Cuts (b .pieces)) (N : Numbering)
 abbrev pub vertexOf : BaseMesh → Numbering → ℕ → Vertex
 vertexOf b N v = record { place = N .placeAt v; p = cond (ltb v (b .vertices)) none (N .pAt v); q = cond (ltb v (b .vertices)) none (N .qAt v) }
 
+-- Document 02: "a child has its parent's" material, so a record has that of the base piece from which it comes.
 abbrev pub recordOf : BaseMesh → Numbering → ℕ → Record
 recordOf b N r =
     let s = pieceAt (named b) (N .nodeAt r) .shape in
@@ -252,6 +255,7 @@ recordOf b N r =
             marks = mark s 0 ∷ mark s 1 ∷ mark s 2 ∷ mark s 3 ∷ [];
             flag = s .flag;
             generation = generation (N .nodeAt r);
+            material = b .materialAt (N .nodeAt r .root);
           };
       «first_child» = N .firstAt r;
     }
@@ -268,6 +272,8 @@ written job round b N =
 pub record Stores (s : List ℕ) (job round : ℕ) (b : BaseMesh) (C : Cuts (b .pieces)) : Type 0 where
   pub job-fits : U32 job
   pub round-fits : U16 round
+  -- version 1 stores no material: it is 0
+  pub materials : (r : ℕ) → r < b .pieces → MaterialFits false (b .materialAt r)
   pub numbers : Numbering
   pub vertices-numbered : VerticesNumbered b C numbers
   pub records-numbered : RecordsNumbered b C numbers
@@ -295,13 +301,14 @@ pub record StoredMesh (s : List ℕ) : Type 0 where
 
 -- ---- what two such sets, stored by the same bytes, have the same
 
--- The same vertices at the same places, and the same pieces: shape by shape and corner by corner.
+-- The same vertices at the same places, and the same pieces: shape by shape, corner by corner and material by material.
 pub record SameBase (b b′ : BaseMesh) : Type 0 where
   pub vertices : b .vertices ≡ b′ .vertices
   pub pieces : b .pieces ≡ b′ .pieces
   pub placeAt : (v : ℕ) → v < b .vertices → b .placeAt v ≡ b′ .placeAt v
   pub shapeAt : (r : ℕ) → r < b .pieces → b .shapeAt r ≡ b′ .shapeAt r
   pub cornerAt : (r : ℕ) → r < b .pieces → (k : ℕ) → k < 4 → b .cornerAt r k ≡ b′ .cornerAt r k
+  pub materialAt : (r : ℕ) → r < b .pieces → b .materialAt r ≡ b′ .materialAt r
 
 -- Two numberings of a set over the base mesh b say the same of every number that they give.
 pub record SameNumbering (b : BaseMesh) (N N′ : Numbering) : Type 0 where
@@ -353,7 +360,7 @@ pub record Figures (b : BaseMesh) (C : Cuts (b .pieces)) (leaves deepest sixfold
 -- ======== demand 2: the base mesh that build's two lists say
 
 -- Three coordinates a vertex and four corners a piece, as they are listed: what build's rules judge. "The refinement edge is the first-ranked of the piece, a face's mark the
--- first-ranked of the face. Flags are 0."
+-- first-ranked of the face. Flags are 0." Build is given no material: 0.
 abbrev pub plainBase : List ℤ → List ℕ → BaseMesh
 plainBase coordinates corners =
     record {
@@ -362,6 +369,7 @@ plainBase coordinates corners =
       placeAt = plainPlace coordinates;
       shapeAt = λ r. shapeOf (markedPiece coordinates (plainPiece corners r));
       cornerAt = λ r k. getD corners (4 * r + k) 0;
+      materialAt = λ r. 0;
     }
 
 -- The one that build stores: "Build takes a left-handed piece by exchanging its last two corners before marking." Each piece keeps its place in the list.
@@ -373,6 +381,7 @@ builtBase coordinates corners =
       placeAt = plainPlace coordinates;
       shapeAt = λ r. shapeOf (markedPiece coordinates (rightedPiece coordinates (plainPiece corners r)));
       cornerAt = λ r k. getD (rightedPiece coordinates (plainPiece corners r) .corners) k 0;
+      materialAt = λ r. 0;
     }
 
 -- Piece r as it is built, beside piece r as it is given.

@@ -9,7 +9,8 @@ use mathlib.Core.Path.{_≡_}
 use Rattle.piece_edges.specs.Edges.{lowSlot, highSlot, edgeBetween, onFace, oppositeOn}
 use Rattle.piece.specs.declared.Piece.{Piece}
 
--- "A piece carries a refinement edge, one marked edge for each face [..], a flag and a generation." The generation has no part in cutting.
+-- "A piece carries a refinement edge, one marked edge for each face [..], a flag and a generation." The generation has no part in cutting, nor has
+-- document 02's material.
 pub record Shape : Type 0 where
   pub edge : ℕ
   pub marks : List ℕ

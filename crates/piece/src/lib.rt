@@ -16,6 +16,8 @@ pub struct Piece {
     pub marks: [u8; 4],
     pub flag: u8,
     pub generation: u8,
+    // What the casing is made of there. Document 02: "a material from 0 to 255".
+    pub material: u8,
 }
 
 // The two vertex numbers of an edge.

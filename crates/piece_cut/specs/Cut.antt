@@ -59,7 +59,7 @@ childShape s k =
       flag = childFlag s;
     }
 
--- One child, with the new vertex w in slot k. "Their generation is the parent's plus 1", in a byte.
+-- One child, with the new vertex w in slot k. "Their generation is the parent's plus 1", in a byte. Document 02: "a child has its parent's" material.
 unfoldable pub childOf : Piece → ℕ → ℕ → Piece
 childOf p w k =
     let s = childShape (shapeOf p) k in
@@ -69,6 +69,7 @@ childOf p w k =
       marks = s .marks;
       flag = s .flag;
       generation = (p .generation + 1) % 256;
+      material = p .material;
     }
 
 -- "The first child has w in v's slot, the second has w in u's slot."

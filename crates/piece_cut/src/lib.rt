@@ -90,8 +90,8 @@ fn child_mark(p: Piece, k: u8, new: u8, i: u8) -> u8
     cut_mark(k, i)
 }
 
-// One child, with the new vertex w in slot k: the steps put together. Its generation is the parent's and one more. What both children have of
-// the parent is given: whether it is of type P_f, and their flag.
+// One child, with the new vertex w in slot k: the steps put together. Its generation is the parent's and one more; document 02: "a child has
+// its parent's" material. What both children have of the parent is given: whether it is of type P_f, and their flag.
 fn child(p: Piece, set: bool, flag: u8, w: u32, k: u8) -> Piece
     requires { ⌜ (set ≡ setP (shapeOf p)) × (flag ≡ childFlag (shapeOf p)) ⌝ }
     ensures { λ r. ⌜ r ≡ childOf p w k ⌝ }
@@ -112,6 +112,7 @@ fn child(p: Piece, set: bool, flag: u8, w: u32, k: u8) -> Piece
         marks: marks,
         flag: flag,
         generation: generation,
+        material: p.material,
     }
 }
 

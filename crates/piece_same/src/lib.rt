@@ -1,4 +1,4 @@
-// Two pieces compared: corners in their slots, edge, marks, flag and generation.
+// Two pieces compared: corners in their slots, edge, marks, flag, generation and material.
 use piece::Piece;
 ghost use mathlib.Core.Path.{_≡_};
 ghost use Rattle.piece.specs.Same.{sameSlots, samePiece};
@@ -33,6 +33,9 @@ pub fn same_piece(p: Piece, q: Piece) -> bool
         return false;
     }
     if p.generation != q.generation {
+        return false;
+    }
+    if p.material != q.material {
         return false;
     }
     same_slots(p, q)

@@ -35,6 +35,7 @@ cut-record-fits r c f h =
       flag = f .flag;
       generation = f .generation;
       firstChild = h;
+      material = f .material;
     }
 
 -- One corner is another, or none is.
@@ -80,6 +81,7 @@ child-fits r f w k h =
       flag = omega (arith, bit-small (unsetP s));
       generation = omega arith;
       firstChild = inl refl;
+      material = f .material;
     }
 
 pub children-fit : (r : Record) → RecordFits r → (w : ℕ) → OrNone w → RecordFits (leafRecord (cutOf (r .piece) w .first)) × RecordFits (leafRecord (cutOf (r .piece) w .second))

@@ -40,10 +40,10 @@ K-corners = 0 ∷ 1 ∷ 2 ∷ 3 ∷ []
 abbrev vertex : ℕ → ℕ → ℕ → ℕ → ℕ → Vertex
 vertex x y z p q = record { place = record { x = x; y = y; z = z }; p = p; q = q }
 
--- The record with these corners, refinement edge, marks, flag, generation and first child.
+-- The record with these corners, refinement edge, marks, flag, generation and first child, of material 0.
 abbrev entry : List ℕ → ℕ → List ℕ → ℕ → ℕ → ℕ → Record
 entry corners edge marks flag generation first =
-    record { piece = record { corners = corners; edge = edge; marks = marks; flag = flag; generation = generation }; «first_child» = first }
+    record { piece = record { corners = corners; edge = edge; marks = marks; flag = flag; generation = generation; material = 0 }; «first_child» = first }
 
 -- The mesh of this round with these vertices and records, of which the first four and the first are base.
 abbrev storedAs : ℕ → List Vertex → List Record → List ℕ

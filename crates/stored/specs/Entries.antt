@@ -134,6 +134,7 @@ record-again r f =
             getD (r .piece .marks) 0 0 ∷ getD (r .piece .marks) 1 0 ∷ getD (r .piece .marks) 2 0 ∷ getD (r .piece .marks) 3 0 ∷ [];
         flag = r .piece .flag;
         generation = r .piece .generation;
+        material = 0;
       };
       «first_child» = number-again (r .«first_child») (drop 17 bytes) (f .firstChild) i;
     })
@@ -145,6 +146,7 @@ record-again r f =
         marks = four-of (r .piece .marks) 0 (f .fourMarks) i;
         flag = r .piece .flag;
         generation = r .piece .generation;
+        material = sym (f .material .none refl) i;
       };
       «first_child» = r .«first_child»;
     })

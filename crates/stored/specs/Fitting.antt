@@ -57,6 +57,11 @@ pub record VertexFits (v : Vertex) : Type 0 where
   pub p : OrNone (v .p)
   pub q : OrNone (v .q)
 
+-- Document 02: "a material from 0 to 255"; where none is stored, 0.
+pub record MaterialFits (stored : Bool) (m : ℕ) : Type 0 where
+  pub byte : m < 256
+  pub none : stored ≡ false → m ≡ 0
+
 pub record RecordFits (r : Record) : Type 0 where
   pub fourCorners : length (r .piece .corners) ≡ 4
   pub corners : (k : ℕ) → OrNone (getD (r .piece .corners) k 0)
@@ -66,6 +71,7 @@ pub record RecordFits (r : Record) : Type 0 where
   pub flag : r .piece .flag < 256
   pub generation : r .piece .generation < 256
   pub firstChild : OrNone (r .«first_child»)
+  pub material : MaterialFits false (r .piece .material)
 
 -- A mesh's tables are as long as its header says, and the header's numbers fit.
 pub record Counted (m : Mesh) : Type 0 where
@@ -157,6 +163,7 @@ module _ (s : List ℕ) (b : Bytes s) where
         flag = b .byte flagAt;
         generation = b .byte generationAt;
         firstChild = or-none-fits (u16At s firstChildAt) (u16-fits firstChildAt);
+        material = record { byte = lit< tt; none = λ _. refl };
       }
     where
       corner : (k : ℕ) → OrNone (getD (cornersFrom s) k 0)

@@ -189,7 +189,7 @@ parentsOf v = record { lower = v .p; higher = v .q }
 -- ---- "Record, 17 bytes: four corners (u16), refinement edge (u8), marks of faces 0 to 3 (u8 each), flag, generation, number of the
 -- first child (u16; 65,535 if uncut)."
 
--- The corners and the marks of the record that the first seventeen bytes say, and the record.
+-- The corners and the marks of the record that the first seventeen bytes say, and the record. Version 1 stores no material: it is read as 0.
 abbrev pub cornersFrom : List ℕ → List ℕ
 cornersFrom s = orNone (u16At s 0) ∷ orNone (u16At s 2) ∷ orNone (u16At s 4) ∷ orNone (u16At s 6) ∷ []
 
@@ -205,6 +205,7 @@ recordFrom s =
         marks = marksFrom s;
         flag = byteAt s flagAt;
         generation = byteAt s generationAt;
+        material = 0;
       };
       «first_child» = orNone (u16At s firstChildAt);
     }

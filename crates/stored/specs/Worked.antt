@@ -62,6 +62,7 @@ module _ (z : List ℕ) (h : Zeros z) where
           marks = h marksAt i ∷ h (marksAt + 1) i ∷ h (marksAt + 2) i ∷ h (marksAt + 3) i ∷ [];
           flag = h flagAt i;
           generation = h generationAt i;
+          material = 0;
         };
         «first_child» = orNone (zero-number firstChildAt i);
       }

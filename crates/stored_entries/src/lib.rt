@@ -239,6 +239,7 @@ fn short_record(entry: &[u8]) -> Record
         marks: marks,
         flag: flag,
         generation: generation,
+        material: 0,
     };
     Record {
         piece: piece,
@@ -263,6 +264,7 @@ fn whole_record(entry: &[u8]) -> Record
         ],
         flag: entry[stored::FLAG_AT],
         generation: entry[stored::GENERATION_AT],
+        material: 0,
     };
     Record {
         piece: piece,

@@ -48,6 +48,7 @@ fn piece_again(vertices: &[u32], p: Piece) -> Piece
         marks: marks,
         flag: p.flag,
         generation: p.generation,
+        material: p.material,
     }
 }
 

@@ -69,6 +69,7 @@ pieceAgain new p =
       marks = p .marks;
       flag = p .flag;
       generation = p .generation;
+      material = p .material;
     }
 
 -- A record with the new numbers of its corners and of its first child. One whose children have gone is a leaf again.

@@ -42,7 +42,7 @@ closed-left m named =
       base-records = refl;
       records = refl;
       vertexAt = λ k h. record { place = refl; p = new-number _ _; q = new-number _ _ };
-      recordAt = λ k h. record { four = refl; corner = corner k; edge = refl; marks = refl; flag = refl; generation = refl; first = new-number _ _ };
+      recordAt = λ k h. record { four = refl; corner = corner k; edge = refl; marks = refl; flag = refl; generation = refl; material = refl; first = new-number _ _ };
     }
   where
     corner : (k j : ℕ) → j < 4 → NewNumber (vertexRemains m named) (cornerAt (m .recordAt (oldBelow (allRecords m) (recordRemains m named) k) .piece) j) (cornerAt (closedUp m named .recordAt k .piece) j)

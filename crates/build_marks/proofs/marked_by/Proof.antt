@@ -20,6 +20,7 @@ returns c =
           ∷ [];
       flag = 0;
       generation = 0;
+      material = c .before .before .before .before .before .args .material;
     }
 
 pub marked-by-spec : {M : Type 1} → statement M

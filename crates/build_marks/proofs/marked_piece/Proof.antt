@@ -35,7 +35,7 @@ returns c =
     let d = places .before .plain-place3 .ensures in
     let e = places .plain-place4 .ensures in
     c .marked-by .ensures
-    ∙ (λ i. markedBy (p .corners)
+    ∙ (λ i. markedBy (p .corners) (p .material)
     (edge coordinates p 0 (c .before .before .before .before .before .before .edge-between .ensures) a b i)
     (edge coordinates p 1 (c .before .before .before .before .before .edge-between2 .ensures) a d i)
     (edge coordinates p 2 (c .before .before .before .before .edge-between3 .ensures) a e i)

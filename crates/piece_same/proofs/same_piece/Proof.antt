@@ -20,7 +20,11 @@ returns-3 c = rw (eq-eqb _ _ (c .before .before .before .before .before .before 
 
 returns-4 : tie.Need-returns-4
 unfolding samePiece
-returns-4 c = rw (eq-eqb _ _ (c .before .before .before .before .before .before .before .if1 .left), eq-eqb _ _ (c .before .before .before .before .if2 .left), eq-eqb _ _ (c .before .if3 .left)) (c .same-slots .ensures)
+returns-4 c = rw (eq-eqb _ _ (c .before .before .before .before .before .before .before .before .before .if1 .left), eq-eqb _ _ (c .before .before .before .before .before .before .if2 .left), eq-eqb _ _ (c .before .before .before .if3 .left), ne-eqb _ _ (c .if4 .taken))
+
+returns-5 : tie.Need-returns-5
+unfolding samePiece
+returns-5 c = rw (eq-eqb _ _ (c .before .before .before .before .before .before .before .before .before .before .if1 .left), eq-eqb _ _ (c .before .before .before .before .before .before .before .if2 .left), eq-eqb _ _ (c .before .before .before .before .if3 .left), eq-eqb _ _ (c .before .if4 .left)) (c .same-slots .ensures)
 
 pub same-piece-spec : {M : Type 1} → statement M
-same-piece-spec = tie.close (tie.spec returns returns-2 returns-3 (λ c κs. search needs) returns-4)
+same-piece-spec = tie.close (tie.spec returns returns-2 returns-3 returns-4 (λ c κs. search needs) returns-5)
