@@ -15,9 +15,8 @@ use Rattle.piece.specs.declared.Piece.{Piece}
 use Rattle.piece.specs.Shape.{shapeOf, Valid}
 use Rattle.stored.specs.declared.Header.{Header}
 use Rattle.stored.specs.declared.Record.{Record}
-use Rattle.stored.specs.Layout.{none, limits}
-use Rattle.stored.specs.Fitting.{MeshFits}
-use Rattle.stored.specs.Meshes.{mesh-right-length, mesh-right-mark}
+use Rattle.stored.specs.Layout.{none, limits, kind1, right1, rightLength, rightMark, version1, Stored, stored1}
+use Rattle.stored.specs.Meshes.{MeshFits, mesh-right-length, mesh-right-mark}
 use Rattle.mesh_tables.specs.Tables.{Tables, tablesOf, baseVertices, allVertices, baseRecords, allRecords, pieceAt, isLeaf}
 use Rattle.check_refusals.specs.Refusals.{wrongLength, wrongMark, wrongCounts, badVertices, badBaseFaces, unusedVertices, hangingVertices}
 use Rattle.check_refusals.specs.Check.{checkNumber, leaves, leafGeneration, deepest, sixfold, reportOf, checkOf}
@@ -34,7 +33,7 @@ use Rattle.build_service.specs.Build.{notWhole, plainHeader, plainMesh, plainBy
 use Rattle.build_meaning.specs.Edges.{Different}
 use Rattle.build_meaning.specs.Marks.{marked-valid}
 use Rattle.build_meaning.specs.Records.{RightGiven, given-holds, named, records-read, all-base, stored-piece, right-record, right-hand}
-use Rattle.build_meaning.specs.Written.{Given, CountsFit, written, plain-fits, header-read}
+use Rattle.build_meaning.specs.Written.{Given, CountsFit, written, plain-stored, plain-fits, header-read}
 
 -- What build has tried where it accepts, in its own order.
 pub record Passed (job : ℕ) (coordinates : List ℤ) (corners : List ℕ) (room : ℕ) : Type 0 where
@@ -67,7 +66,7 @@ module _ (job : ℕ) (coordinates : List ℤ) (corners : List ℕ) (room : ℕ) 
   counts-fit : Passed job coordinates corners room → CountsFit coordinates corners
   unfolding wrongCounts plainHeader
   counts-fit p =
-      let both = or-left-false _ _ (or-left-false _ _ (or-left-false _ _ (or-left-false _ _ (p .counts)))) in
+      let both = or-left-false _ _ (or-left-false _ _ (or-left-false _ _ (or-left-false _ _ (or-left-false _ _ (p .counts))))) in
       record {
         vertices = let l = ltb-false (limits .vertices) (length coordinates / 3) (or-left-false _ _ both) in omega arith;
         records = let l = ltb-false (limits .records) (length corners / 4) (or-right-false (ltb (limits .vertices) (length coordinates / 3)) _ both) in omega arith;
@@ -84,8 +83,8 @@ greatest-zero f zero h = greatest-none f
 greatest-zero f (suc n) h = rw (greatest-suc, greatest-zero f n (λ k l. h k (omega arith)), h n (le-refl (suc n)))
 
 module _ (job : ℕ) (coordinates : List ℤ) (corners : List ℕ) where
-  abbrev s : List ℕ
-  s = plainBytes job coordinates corners
+  abbrev s : Stored
+  s = stored1 (plainBytes job coordinates corners)
 
   abbrev m : Tables
   m = written job coordinates corners
@@ -106,7 +105,7 @@ module _ (job : ℕ) (coordinates : List ℤ) (corners : List ℕ) where
     right-given = given-holds coordinates corners .0 (tried .given)
 
     -- The mesh that build accepts fits its stored form.
-    pub build-fits : MeshFits (plainMesh job coordinates corners)
+    pub build-fits : MeshFits kind1 (plainMesh job coordinates corners)
     build-fits = plain-fits job coordinates corners g fit (named job coordinates corners g fit right-given)
 
     -- The records that check reads are the plain ones.
@@ -135,7 +134,7 @@ module _ (job : ℕ) (coordinates : List ℤ) (corners : List ℕ) where
     all-leaves n l = ap (λ (r : Record). r .«first_child») (build-record n (omega (arith, all-plain)))
 
     -- 3 is build's own, of the header that check reads again.
-    right-counts : Within limits m × RightCounts m
+    right-counts : Within limits m × (baseRecords m ≤ limits .«base_records») × RightCounts m
     unfolding tablesOf
     right-counts = rule3-holds limits s .0 (rw build-header (tried .counts))
 
@@ -159,16 +158,19 @@ module _ (job : ℕ) (coordinates : List ℤ) (corners : List ℕ) where
         }
 
     -- What build accepts is a mesh as check asks for it.
-    pub build-accepted : Accepted (plainBytes job coordinates corners)
-    unfolding wrongLength wrongMark plainBytes
+    pub build-accepted : Accepted (stored1 (plainBytes job coordinates corners))
+    unfolding wrongLength wrongMark
     build-accepted =
+        let as-written = sym (plain-stored job coordinates corners g fit) in
+        let mesh = plainMesh job coordinates corners in
         record {
-          length = rule1-holds s .0 (ap not (mesh-right-length (plainMesh job coordinates corners) (build-fits .counts)));
-          mark = rule2-holds s .0 (ap not (mesh-right-mark (plainMesh job coordinates corners) (build-fits .counts)));
+          length = rule1-holds s .0 (ap (λ (t : Stored). not (rightLength kind1 (t .base) (t .grown))) as-written ∙ ap not (mesh-right-length kind1 right1 mesh (build-fits .counts)));
+          mark = rule2-holds s .0 (ap (λ (t : Stored). not (rightMark version1 (t .base))) as-written ∙ ap not (mesh-right-mark kind1 right1 mesh (build-fits .counts)));
           limits = right-counts .0;
+          base-limit = right-counts .1;
           mesh = record {
-            counts = right-counts .1;
-            vertices = rule4-holds m (right-counts .1 .vertices-within) .0 (tried .vertices);
+            counts = right-counts .2;
+            vertices = rule4-holds m (right-counts .2 .vertices-within) .0 (tried .vertices);
             base-records = right-records;
             handed = right-hands;
             base-marks = right-marks;
@@ -181,7 +183,7 @@ module _ (job : ℕ) (coordinates : List ℤ) (corners : List ℕ) where
         }
 
     -- Whatever build accepts, check accepts.
-    pub check-accepts : checkNumber (plainBytes job coordinates corners) ≡ 0
+    pub check-accepts : checkNumber (stored1 (plainBytes job coordinates corners)) ≡ 0
     check-accepts = accepts-exactly s .1 build-accepted
 
     -- It has as many leaves as pieces.
@@ -197,6 +199,6 @@ module _ (job : ℕ) (coordinates : List ℤ) (corners : List ℕ) where
         (λ n l. rw (equal (m .recordAt n .«first_child») none .1 (all-leaves n l)) (right-records n (omega (arith, same-counts .1)) .generation))
 
     -- What check returns of it, all six figures.
-    pub check-reports : checkOf (plainBytes job coordinates corners) ≡ record { number = 0; leaves = length corners / 4; deepest = 0; sixfold = sixfold (written job coordinates corners); «record» = 0; edge = 0 }
+    pub check-reports : checkOf (stored1 (plainBytes job coordinates corners)) ≡ record { number = 0; leaves = length corners / 4; deepest = 0; sixfold = sixfold (written job coordinates corners); «record» = 0; edge = 0 }
     unfolding checkOf reportOf
     check-reports = rw (check-accepts, build-leaves, build-depth)

@@ -15,7 +15,7 @@ use Rattle.grid_volume.specs.Handed.{not-negative, positive-not-negative}
 use Rattle.stored.specs.declared.Vertex.{Vertex}
 use Rattle.stored.specs.declared.Header.{Header}
 use Rattle.stored.specs.declared.Record.{Record}
-use Rattle.stored.specs.Layout.{storedNone}
+use Rattle.stored.specs.Layout.{version1, storedNone}
 use Rattle.mesh_tables.specs.Tables.{Tables, baseVertices, allVertices, baseRecords, allRecords, pieceAt, cornerPoint, signedAt, sixfoldAt}
 use Rattle.check_meaning.specs.Tests.{Fails, none-passes}
 use Rattle.check_meaning.specs.Accepted.{BasePiece}
@@ -52,8 +52,8 @@ module _ (job : ℕ) (coordinates : List ℤ) (corners : List ℕ) (g : Given jo
   all-plain = ap (λ (h : Header). h .records) header
 
   -- 5 leaves no corner of 65,535, which would be read as none.
-  pub named : (n : ℕ) → n < length corners / 4 → (k : ℕ) → getD (plainRecord coordinates corners n .piece .corners) k 0 < storedNone
-  named n l = stored-corner coordinates corners n (λ c. c < storedNone) (omega arith) (λ k s. omega (arith, right-given n l .in-base k s, fit .vertices))
+  pub named : (n : ℕ) → n < length corners / 4 → (k : ℕ) → getD (plainRecord coordinates corners n .piece .corners) k 0 < storedNone version1
+  named n l = stored-corner coordinates corners n (λ c. c < storedNone version1) (omega arith) (λ k s. omega (arith, right-given n l .in-base k s, fit .vertices))
 
   -- The records that check reads are the plain ones.
   pub records-read : (n : ℕ) → n < length corners / 4 → m .recordAt n ≡ plainRecord coordinates corners n

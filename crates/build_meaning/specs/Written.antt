@@ -16,10 +16,10 @@ use Rattle.piece.specs.declared.Piece.{Piece}
 use Rattle.piece.specs.Ends.{cornerAt}
 use Rattle.stored.specs.declared.Vertex.{Vertex}
 use Rattle.stored.specs.declared.Record.{Record}
-use Rattle.stored.specs.Layout.{storedNone, orNone, meshLength, vertexFrom, vertexBytes, recordFrom, recordBytes}
-use Rattle.stored.specs.Fitting.{U16, U32, VertexFits, RecordFits, Counted, MeshFits}
+use Rattle.stored.specs.Layout.{version1, kind1, right1, storedNone, orNone, meshLength, headerFrom, vertexFrom, vertexBytes, recordFrom, recordBytes, Stored, stored1, storedVertex, storedRecord, storedAs}
+use Rattle.stored.specs.Fitting.{U16, U32, VertexFits, RecordFits}
 use Rattle.stored.specs.Entries.{vertex-again, record-again, corner-read}
-use Rattle.stored.specs.Meshes.{mesh-header, mesh-vertex-bytes, mesh-record-bytes, mesh-length}
+use Rattle.stored.specs.Meshes.{Counted, MeshFits, one-within, one-buffer, mesh-header, mesh-vertex-bytes, mesh-record-bytes, mesh-length}
 use Rattle.mesh_tables.specs.Tables.{Tables, tablesOf}
 use Rattle.build_marks.specs.Marking.{placeFor, plainPlace, plainVertex, plainPiece, rightedPiece, firstRanked, markedPiece, plainRecord}
 use Rattle.build_service.specs.Build.{plainHeader, plainMesh, plainBytes}
@@ -38,7 +38,7 @@ pub record CountsFit (coordinates : List ℤ) (corners : List ℕ) : Type 0 wher
 
 -- The tables that check reads from what build writes.
 abbrev pub written : ℕ → List ℤ → List ℕ → Tables
-written job coordinates corners = tablesOf (plainBytes job coordinates corners)
+written job coordinates corners = tablesOf (stored1 (plainBytes job coordinates corners))
 
 -- A first-ranked edge is stored in a byte.
 ranked-byte : (coordinates : List ℤ) (p : Piece) (among : ℕ → Bool) → firstRanked coordinates p among < 256
@@ -71,7 +71,7 @@ stored-corner coordinates corners n P none each k =
     (either (ltb k 4))
 
 module _ (job : ℕ) (coordinates : List ℤ) (corners : List ℕ) (g : Given job coordinates corners) (c : CountsFit coordinates corners) where
-  vertex-fits : (v : ℕ) → v < length coordinates / 3 → VertexFits (plainVertex coordinates v)
+  vertex-fits : (v : ℕ) → v < length coordinates / 3 → VertexFits version1 (plainVertex coordinates v)
   unfolding plainVertex plainPlace
   vertex-fits v l =
       record {
@@ -95,7 +95,7 @@ module _ (job : ℕ) (coordinates : List ℤ) (corners : List ℕ) (g : Given jo
   corner-small n l k =
       stored-corner coordinates corners n U16 (omega arith) (λ j s. given-small n l j s) k
 
-  plain-counted : Counted (plainMesh job coordinates corners)
+  plain-counted : Counted kind1 (plainMesh job coordinates corners)
   unfolding plainMesh plainHeader
   plain-counted =
       record {
@@ -109,41 +109,49 @@ module _ (job : ℕ) (coordinates : List ℤ) (corners : List ℕ) (g : Given jo
         };
         vertexCount = list-length (plainVertex coordinates) (length coordinates / 3);
         recordCount = list-length (plainRecord coordinates corners) (length corners / 4);
+        within = one-within kind1 (plainHeader job coordinates corners) refl;
       }
 
+  -- Build's bytes are all of the mesh, stored in one buffer.
+  pub plain-stored : storedAs kind1 right1 (plainMesh job coordinates corners) ≡ stored1 (plainBytes job coordinates corners)
+  unfolding plainBytes
+  plain-stored = one-buffer kind1 right1 refl (plainMesh job coordinates corners) plain-counted
+
   -- The bytes are "20 + 10·vertices + 17·records".
-  pub plain-length : length (plainBytes job coordinates corners) ≡ meshLength (length coordinates / 3) (length corners / 4)
-  unfolding plainBytes plainMesh plainHeader
-  plain-length = mesh-length (plainMesh job coordinates corners) plain-counted
+  pub plain-length : length (plainBytes job coordinates corners) ≡ meshLength version1 (length coordinates / 3) (length corners / 4)
+  unfolding plainMesh plainHeader
+  plain-length = ap (λ (t : Stored). length (t .base)) (sym plain-stored) ∙ mesh-length kind1 right1 (plainMesh job coordinates corners) plain-counted
 
   -- Check reads the plain header.
   pub header-read : written job coordinates corners .header ≡ plainHeader job coordinates corners
-  unfolding tablesOf plainBytes plainMesh
-  header-read = mesh-header (plainMesh job coordinates corners) plain-counted
+  unfolding tablesOf plainMesh
+  header-read = ap (λ (t : Stored). headerFrom version1 (t .base)) (sym plain-stored) ∙ mesh-header kind1 right1 (plainMesh job coordinates corners) plain-counted
 
   -- Check reads the plain vertices.
   pub vertex-read : (v : ℕ) → v < length coordinates / 3 → written job coordinates corners .vertexAt v ≡ plainVertex coordinates v
-  unfolding tablesOf plainBytes plainMesh
+  unfolding tablesOf plainMesh
   vertex-read v l =
       let d = plainVertex coordinates v in
-      mesh-vertex-bytes (plainMesh job coordinates corners) plain-counted v d (rw list-length l)
-      ∙ ap (λ (x : Vertex). vertexFrom (vertexBytes x)) (list-at (plainVertex coordinates) (length coordinates / 3) v d l)
-      ∙ vertex-again d (vertex-fits v l)
+      ap (λ (t : Stored). storedVertex t v) (sym plain-stored)
+      ∙ mesh-vertex-bytes kind1 right1 (plainMesh job coordinates corners) plain-counted v d (rw list-length l)
+      ∙ ap (λ (x : Vertex). vertexFrom version1 (vertexBytes version1 x)) (list-at (plainVertex coordinates) (length coordinates / 3) v d l)
+      ∙ vertex-again version1 d (vertex-fits v l)
 
   -- Check reads the bytes of the plain records, and so their corners, but that 65,535 is read as none.
-  record-bytes-read : (n : ℕ) → n < length corners / 4 → written job coordinates corners .recordAt n ≡ recordFrom (recordBytes (plainRecord coordinates corners n))
-  unfolding tablesOf plainBytes plainMesh
+  record-bytes-read : (n : ℕ) → n < length corners / 4 → written job coordinates corners .recordAt n ≡ recordFrom version1 (recordBytes version1 (plainRecord coordinates corners n))
+  unfolding tablesOf plainMesh
   record-bytes-read n l =
       let d = plainRecord coordinates corners n in
-      mesh-record-bytes (plainMesh job coordinates corners) plain-counted n d (rw list-length l)
-      ∙ ap (λ (x : Record). recordFrom (recordBytes x)) (list-at (plainRecord coordinates corners) (length corners / 4) n d l)
+      ap (λ (t : Stored). storedRecord t n) (sym plain-stored)
+      ∙ mesh-record-bytes kind1 right1 (plainMesh job coordinates corners) plain-counted n d (rw list-length l)
+      ∙ ap (λ (x : Record). recordFrom version1 (recordBytes version1 x)) (list-at (plainRecord coordinates corners) (length corners / 4) n d l)
 
-  pub plain-corner-read : (n : ℕ) → n < length corners / 4 → (k : ℕ) → k < 4 → cornerAt (written job coordinates corners .recordAt n .piece) k ≡ orNone (getD (plainRecord coordinates corners n .piece .corners) k 0)
+  pub plain-corner-read : (n : ℕ) → n < length corners / 4 → (k : ℕ) → k < 4 → cornerAt (written job coordinates corners .recordAt n .piece) k ≡ orNone version1 (getD (plainRecord coordinates corners n .piece .corners) k 0)
   plain-corner-read n l k s =
-      ap (λ (r : Record). cornerAt (r .piece) k) (record-bytes-read n l) ∙ corner-read (plainRecord coordinates corners n) k s (corner-small n l k)
+      ap (λ (r : Record). cornerAt (r .piece) k) (record-bytes-read n l) ∙ corner-read version1 (plainRecord coordinates corners n) k s (corner-small n l k)
 
-  module _ (named : (n : ℕ) → n < length corners / 4 → (k : ℕ) → getD (plainRecord coordinates corners n .piece .corners) k 0 < storedNone) where
-    record-fits : (n : ℕ) → n < length corners / 4 → RecordFits (plainRecord coordinates corners n)
+  module _ (named : (n : ℕ) → n < length corners / 4 → (k : ℕ) → getD (plainRecord coordinates corners n .piece .corners) k 0 < storedNone version1) where
+    record-fits : (n : ℕ) → n < length corners / 4 → RecordFits version1 (plainRecord coordinates corners n)
     unfolding plainRecord markedPiece
     record-fits n l =
         let p = rightedPiece coordinates (plainPiece corners n) in
@@ -161,7 +169,7 @@ module _ (job : ℕ) (coordinates : List ℤ) (corners : List ℕ) (g : Given jo
         }
 
     -- Every number of the plain mesh fits its stored width.
-    pub plain-fits : MeshFits (plainMesh job coordinates corners)
+    pub plain-fits : MeshFits kind1 (plainMesh job coordinates corners)
     unfolding plainMesh
     plain-fits =
         let vertices = list-length (plainVertex coordinates) (length coordinates / 3) in
@@ -169,11 +177,11 @@ module _ (job : ℕ) (coordinates : List ℤ) (corners : List ℕ) (g : Given jo
         record {
           counts = plain-counted;
           vertices = λ k d l. let b : k < length coordinates / 3 = omega arith in
-              subst VertexFits (sym (list-at (plainVertex coordinates) (length coordinates / 3) k d b)) (vertex-fits k b);
+              subst (VertexFits version1) (sym (list-at (plainVertex coordinates) (length coordinates / 3) k d b)) (vertex-fits k b);
           records = λ k d l. let b : k < length corners / 4 = omega arith in
-              subst RecordFits (sym (list-at (plainRecord coordinates corners) (length corners / 4) k d b)) (record-fits k b);
+              subst (RecordFits version1) (sym (list-at (plainRecord coordinates corners) (length corners / 4) k d b)) (record-fits k b);
         }
 
     -- Check reads the plain records.
     pub record-read : (n : ℕ) → n < length corners / 4 → written job coordinates corners .recordAt n ≡ plainRecord coordinates corners n
-    record-read n l = record-bytes-read n l ∙ record-again (plainRecord coordinates corners n) (record-fits n l)
+    record-read n l = record-bytes-read n l ∙ record-again version1 (plainRecord coordinates corners n) (record-fits n l)

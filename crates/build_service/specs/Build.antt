@@ -10,7 +10,7 @@ use Rattle.laws.specs.Lists.{outputOf}
 use Rattle.laws.specs.Below.{anyBelow, listBelow}
 use Rattle.laws.specs.Order.{Row, row, firstBroken}
 use Rattle.stored.specs.declared.Header.{Header}
-use Rattle.stored.specs.Layout.{limits, Mesh, meshBytes}
+use Rattle.stored.specs.Layout.{version1, limits, Mesh, meshBytes, stored1}
 use Rattle.mesh_tables.specs.Tables.{tablesOf}
 use Rattle.check_refusals.specs.Refusals.{wrongCounts, badVertices, badPiece, badBaseFaces, unusedVertices, hangingVertices}
 use Rattle.build_marks.specs.Marking.{plainVertex, plainPiece, plainRecord}
@@ -41,7 +41,7 @@ plainMesh job coordinates corners =
     }
 
 unfoldable pub plainBytes : ℕ → List ℤ → List ℕ → List ℕ
-plainBytes job coordinates corners = meshBytes (plainMesh job coordinates corners)
+plainBytes job coordinates corners = meshBytes version1 (plainMesh job coordinates corners)
 
 -- 5 judges the pieces as they are given, by check's own rule; only then left-handed ones are exchanged, and all are marked.
 unfoldable pub badGivenPieces : List ℤ → List ℕ → Bool
@@ -51,7 +51,7 @@ badGivenPieces coordinates corners =
 -- "Build tries 21, then 3, 4, 5, 7, 8, 20", and document 02's 23 "before 20": 4, 7, 8 and 23 are check's own, of what will be written.
 unfoldable pub buildRows : ℕ → List ℤ → List ℕ → ℕ → List Row
 buildRows job coordinates corners room =
-    let m = tablesOf (plainBytes job coordinates corners) in
+    let m = tablesOf (stored1 (plainBytes job coordinates corners)) in
     row 21 (notWhole coordinates corners)
     ∷ row 3 (wrongCounts limits (plainHeader job coordinates corners))
     ∷ row 4 (badVertices m)

@@ -18,7 +18,7 @@ use Rattle.stored.specs.declared.Layout.{Layout}
 use Rattle.stored.specs.declared.Header.{Header}
 use Rattle.stored.specs.declared.Vertex.{Vertex}
 use Rattle.stored.specs.declared.Record.{Record}
-use Rattle.stored.specs.Layout.{vertexWidth, recordWidth, limits, headerBytes, vertexBytes, recordBytes, baseInto, grownInto, working, assembled, meshBytes}
+use Rattle.stored.specs.Layout.{version1, vertexWidth, recordWidth, limits, headerBytes, vertexBytes, recordBytes, baseInto, grownInto, working, assembled, laidOut, stored1}
 use Rattle.stored.specs.Held.{into-base, not-into-base, into-growth, not-into-growth}
 use Rattle.stored.specs.Fitting.{U32, HeaderFits}
 use Rattle.stored.specs.Entries.{vertex-wide, record-wide}
@@ -33,10 +33,10 @@ use Rattle.build_service.specs.Build.{notWhole, plainHeader, plainMesh, 
 
 -- s, with the first n vertices written, and s with the first n records written.
 unfoldable pub verticesPut : List ℕ → List ℤ → ℕ → List ℕ
-verticesPut s coordinates n = sets s 0 (joined vertexBytes (listBelow n (plainVertex coordinates)))
+verticesPut s coordinates n = sets s 0 (joined (vertexBytes version1) (listBelow n (plainVertex coordinates)))
 
 unfoldable pub recordsPut : List ℕ → List ℤ → List ℕ → ℕ → List ℕ
-recordsPut s coordinates corners n = sets s 0 (joined recordBytes (listBelow n (plainRecord coordinates corners)))
+recordsPut s coordinates corners n = sets s 0 (joined (recordBytes version1) (listBelow n (plainRecord coordinates corners)))
 
 -- one entry more, and the front that so many entries make up
 module _ {ℓ} {A : Type ℓ} (bytes : A → List ℕ) (w : ℕ) (wide : (x : A) → length (bytes x) ≡ w) (f : ℕ → A) (s : List ℕ) where
@@ -65,67 +65,67 @@ module _ (s : List ℕ) (coordinates : List ℤ) where
   unfolding verticesPut joined
   vertices-none = rw (list-none (plainVertex coordinates))
 
-  pub vertices-next : (i : ℕ) → sets (verticesPut s coordinates i) (0 + vertexWidth * i) (vertexBytes (plainVertex coordinates i)) ≡ verticesPut s coordinates (i + 1)
+  pub vertices-next : (i : ℕ) → sets (verticesPut s coordinates i) (0 + vertexWidth version1 * i) (vertexBytes version1 (plainVertex coordinates i)) ≡ verticesPut s coordinates (i + 1)
   unfolding verticesPut
-  vertices-next i = entries-next vertexBytes vertexWidth vertex-wide (plainVertex coordinates) s i
+  vertices-next i = entries-next (vertexBytes version1) (vertexWidth version1) (vertex-wide version1) (plainVertex coordinates) s i
 
   pub vertices-length : (i : ℕ) → length (verticesPut s coordinates i) ≡ length s
   unfolding verticesPut
-  vertices-length i = length-sets s 0 (joined vertexBytes (listBelow i (plainVertex coordinates)))
+  vertices-length i = length-sets s 0 (joined (vertexBytes version1) (listBelow i (plainVertex coordinates)))
 
 module _ (s : List ℕ) (coordinates : List ℤ) (corners : List ℕ) where
   pub records-none : recordsPut s coordinates corners 0 ≡ s
   unfolding recordsPut joined
   records-none = rw (list-none (plainRecord coordinates corners))
 
-  pub records-next : (i : ℕ) → sets (recordsPut s coordinates corners i) (0 + recordWidth * (i - 0)) (recordBytes (plainRecord coordinates corners i)) ≡ recordsPut s coordinates corners (i + 1)
+  pub records-next : (i : ℕ) → sets (recordsPut s coordinates corners i) (0 + recordWidth version1 * (i - 0)) (recordBytes version1 (plainRecord coordinates corners i)) ≡ recordsPut s coordinates corners (i + 1)
   unfolding recordsPut
   records-next i =
       let all : i - 0 ≡ i = omega arith in
-      ap (λ (k : ℕ). sets (recordsPut s coordinates corners i) (0 + recordWidth * k) (recordBytes (plainRecord coordinates corners i))) all
-      ∙ entries-next recordBytes recordWidth record-wide (plainRecord coordinates corners) s i
+      ap (λ (k : ℕ). sets (recordsPut s coordinates corners i) (0 + recordWidth version1 * k) (recordBytes version1 (plainRecord coordinates corners i))) all
+      ∙ entries-next (recordBytes version1) (recordWidth version1) (record-wide version1) (plainRecord coordinates corners) s i
 
   pub records-length : (i : ℕ) → length (recordsPut s coordinates corners i) ≡ length s
   unfolding recordsPut
-  records-length i = length-sets s 0 (joined recordBytes (listBelow i (plainRecord coordinates corners)))
+  records-length i = length-sets s 0 (joined (recordBytes version1) (listBelow i (plainRecord coordinates corners)))
 
 -- one turn: an entry is written into the slice of its table, and the other slice is as it was
-module _ (vertices records i : ℕ) (l : Layout) (is : l ≡ working vertices records) (coordinates : List ℤ) where
+module _ (vertices records i : ℕ) (l : Layout) (is : l ≡ working version1 vertices records) (coordinates : List ℤ) where
   pub vertex-step : i < vertices → (s base base′ : List ℕ) (v : Vertex) → base ≡ verticesPut s coordinates i → v ≡ plainVertex coordinates i →
-      base′ ≡ baseInto (l .format .«vertex_width») (l .vertices) base i (vertexBytes v) → base′ ≡ verticesPut s coordinates (i + 1)
+      base′ ≡ baseInto (l .vertices) base i (vertexBytes (l .format) v) → base′ ≡ verticesPut s coordinates (i + 1)
   vertex-step lt s base base′ v b e put =
       put
-      ∙ (λ k. baseInto (is k .format .«vertex_width») (is k .vertices) (b k) i (vertexBytes (e k)))
-      ∙ sym (into-base vertexWidth (working vertices records .vertices) (verticesPut s coordinates i) i (vertexBytes (plainVertex coordinates i)) lt lt)
+      ∙ (λ k. baseInto (is k .vertices) (b k) i (vertexBytes (is k .format) (e k)))
+      ∙ sym (into-base (working version1 vertices records .vertices) (verticesPut s coordinates i) i (vertexBytes version1 (plainVertex coordinates i)) lt lt)
       ∙ vertices-next s coordinates i
 
   pub vertex-frame : i < vertices → (s grown grown′ bytes : List ℕ) → grown ≡ s →
-      grown′ ≡ grownInto (l .format .«vertex_width») (l .vertices) grown i bytes → grown′ ≡ s
+      grown′ ≡ grownInto (l .vertices) grown i bytes → grown′ ≡ s
   vertex-frame lt s grown grown′ bytes b put =
       put
-      ∙ (λ k. grownInto (is k .format .«vertex_width») (is k .vertices) (b k) i bytes)
-      ∙ sym (not-into-growth vertexWidth (working vertices records .vertices) s i bytes lt)
+      ∙ (λ k. grownInto (is k .vertices) (b k) i bytes)
+      ∙ sym (not-into-growth (working version1 vertices records .vertices) s i bytes lt)
 
   pub record-step : i < records → (corners s grown grown′ : List ℕ) (r : Record) → grown ≡ recordsPut s coordinates corners i → r ≡ plainRecord coordinates corners i →
-      grown′ ≡ grownInto (l .format .«record_width») (l .records) grown i (recordBytes r) → grown′ ≡ recordsPut s coordinates corners (i + 1)
+      grown′ ≡ grownInto (l .records) grown i (recordBytes (l .format) r) → grown′ ≡ recordsPut s coordinates corners (i + 1)
   record-step lt corners s grown grown′ r b e put =
       put
-      ∙ (λ k. grownInto (is k .format .«record_width») (is k .records) (b k) i (recordBytes (e k)))
-      ∙ sym (into-growth recordWidth (working vertices records .records) (recordsPut s coordinates corners i) i (recordBytes (plainRecord coordinates corners i)) lt (omega arith))
+      ∙ (λ k. grownInto (is k .records) (b k) i (recordBytes (is k .format) (e k)))
+      ∙ sym (into-growth (working version1 vertices records .records) (recordsPut s coordinates corners i) i (recordBytes version1 (plainRecord coordinates corners i)) lt (omega arith))
       ∙ records-next s coordinates corners i
 
   pub record-frame : (s base base′ bytes : List ℕ) → base ≡ s →
-      base′ ≡ baseInto (l .format .«record_width») (l .records) base i bytes → base′ ≡ s
+      base′ ≡ baseInto (l .records) base i bytes → base′ ≡ s
   record-frame s base base′ bytes b put =
       put
-      ∙ (λ k. baseInto (is k .format .«record_width») (is k .records) (b k) i bytes)
-      ∙ sym (not-into-base recordWidth (working vertices records .records) s i bytes (omega arith))
+      ∙ (λ k. baseInto (is k .records) (b k) i bytes)
+      ∙ sym (not-into-base (working version1 vertices records .records) s i bytes (omega arith))
 
 -- ---- the whole
 
 module _ (job : ℕ) (coordinates : List ℤ) (corners : List ℕ) (right : wrongCounts limits (plainHeader job coordinates corners) ≡ false) where
-  few : Bounded (plainHeader job coordinates corners)
-  few = bounded (plainHeader job coordinates corners) right
+  few : Bounded limits (plainHeader job coordinates corners)
+  few = bounded limits (plainHeader job coordinates corners) right
 
   pub few-vertices : length coordinates / 3 ≤ limits .vertices
   unfolding plainHeader
@@ -135,7 +135,7 @@ module _ (job : ℕ) (coordinates : List ℤ) (corners : List ℕ) (right : wron
   unfolding plainHeader
   few-records = few .records
 
-  pub header-fits : U32 job → HeaderFits (plainHeader job coordinates corners)
+  pub header-fits : U32 job → HeaderFits version1 (plainHeader job coordinates corners)
   unfolding plainHeader
   header-fits j =
       record {
@@ -150,7 +150,7 @@ module _ (job : ℕ) (coordinates : List ℤ) (corners : List ℕ) (right : wron
 -- The work areas, which hold as many vertices and records as there may be: what is written to them, and what is assembled from it.
 module _ (job : ℕ) (coordinates : List ℤ) (corners : List ℕ) (right : wrongCounts limits (plainHeader job coordinates corners) ≡ false)
     (h : Header) (is : h ≡ plainHeader job coordinates corners)
-    (s t vertices records : List ℕ) (room : length s ≡ vertexWidth * limits .vertices) (deep : length t ≡ recordWidth * limits .records)
+    (s t vertices records : List ℕ) (room : length s ≡ vertexWidth version1 * limits .vertices) (deep : length t ≡ recordWidth version1 * limits .records)
     (first : vertices ≡ verticesPut s coordinates (h .vertices)) (then : records ≡ recordsPut t coordinates corners (h .records)) where
   counted : h .vertices ≡ length coordinates / 3
   unfolding plainHeader
@@ -160,29 +160,29 @@ module _ (job : ℕ) (coordinates : List ℤ) (corners : List ℕ) (right : wron
   unfolding plainHeader
   numbered = ap (λ (g : Header). g .records) is
 
-  pub vertices-held : vertexWidth * h .vertices ≤ length vertices
+  pub vertices-held : vertexWidth version1 * h .vertices ≤ length vertices
   vertices-held = omega (arith, ap length first ∙ vertices-length s coordinates (h .vertices), counted, room, few-vertices job coordinates corners right)
 
-  pub records-held : recordWidth * h .records ≤ length records
+  pub records-held : recordWidth version1 * h .records ≤ length records
   records-held = omega (arith, ap length then ∙ records-length t coordinates corners (h .records), numbered, deep, few-records job coordinates corners right)
 
-  pub plain-assembled : assembled h vertices records ≡ plainBytes job coordinates corners
-  unfolding assembled plainBytes plainMesh meshBytes verticesPut recordsPut
+  pub plain-assembled : assembled version1 h vertices records ≡ plainBytes job coordinates corners
+  unfolding assembled plainBytes plainMesh laidOut verticesPut recordsPut
   plain-assembled =
-      let v = entries-front vertexBytes vertexWidth vertex-wide (plainVertex coordinates) s (h .vertices) (omega (arith, counted, room, few-vertices job coordinates corners right)) in
-      let r = entries-front recordBytes recordWidth record-wide (plainRecord coordinates corners) t (h .records) (omega (arith, numbered, deep, few-records job coordinates corners right)) in
-      let vs : take (vertexWidth * h .vertices) vertices ≡ joined vertexBytes (listBelow (length coordinates / 3) (plainVertex coordinates)) =
-      ap (take (vertexWidth * h .vertices)) first ∙ v ∙ ap (λ (n : ℕ). joined vertexBytes (listBelow n (plainVertex coordinates))) counted in
-      let rs : take (recordWidth * h .records) records ≡ joined recordBytes (listBelow (length corners / 4) (plainRecord coordinates corners)) =
-      ap (take (recordWidth * h .records)) then ∙ r ∙ ap (λ (n : ℕ). joined recordBytes (listBelow n (plainRecord coordinates corners))) numbered in
-      λ i. headerBytes (is i) ++ vs i ++ rs i
+      let v = entries-front (vertexBytes version1) (vertexWidth version1) (vertex-wide version1) (plainVertex coordinates) s (h .vertices) (omega (arith, counted, room, few-vertices job coordinates corners right)) in
+      let r = entries-front (recordBytes version1) (recordWidth version1) (record-wide version1) (plainRecord coordinates corners) t (h .records) (omega (arith, numbered, deep, few-records job coordinates corners right)) in
+      let vs : take (vertexWidth version1 * h .vertices) vertices ≡ joined (vertexBytes version1) (listBelow (length coordinates / 3) (plainVertex coordinates)) =
+      ap (take (vertexWidth version1 * h .vertices)) first ∙ v ∙ ap (λ (n : ℕ). joined (vertexBytes version1) (listBelow n (plainVertex coordinates))) counted in
+      let rs : take (recordWidth version1 * h .records) records ≡ joined (recordBytes version1) (listBelow (length corners / 4) (plainRecord coordinates corners)) =
+      ap (take (recordWidth version1 * h .records)) then ∙ r ∙ ap (λ (n : ℕ). joined (recordBytes version1) (listBelow n (plainRecord coordinates corners))) numbered in
+      λ i. headerBytes version1 (is i) ++ vs i ++ rs i
 
 -- What is judged and stored: the header's counts are within the limits and its numbers fit, the tables are held by their work areas, and the output buffer is clear.
 pub record Ready (h : Header) (vertices records out : List ℕ) : Type 0 where
-  pub bounded : Bounded h
-  pub fits : HeaderFits h
-  pub vertices-there : vertexWidth * h .vertices ≤ length vertices
-  pub records-there : recordWidth * h .records ≤ length records
+  pub bounded : Bounded limits h
+  pub fits : HeaderFits version1 h
+  pub vertices-there : vertexWidth version1 * h .vertices ≤ length vertices
+  pub records-there : recordWidth version1 * h .records ≤ length records
   pub clear : out ≡ replicate (length out) 0
 
 -- So many pieces, of so many vertices, as the header says: those that are given.
@@ -238,18 +238,18 @@ module _ (given : Bool) (m : Tables) where
 
 -- And 20, of the mesh's bytes s and the room for them.
 unfoldable pub laterNumber : Bool → List ℕ → ℕ → ℕ
-laterNumber given s room = firstBroken (judgedRows given (tablesOf s) ++ (row 20 (ltb room (length s)) ∷ []))
+laterNumber given s room = firstBroken (judgedRows given (tablesOf (stored1 s)) ++ (row 20 (ltb room (length s)) ∷ []))
 
 unfoldable pub laterBytes : Bool → List ℕ → ℕ → List ℕ
 laterBytes given s room = outputOf (laterNumber given s room) room s
 
 module _ (given : Bool) (s : List ℕ) (room : ℕ) where
-  later-is : laterNumber given s room ≡ cond (eqb (judgedNumber given (tablesOf s)) 0) (cond (ltb room (length s)) 20 0) (judgedNumber given (tablesOf s))
+  later-is : laterNumber given s room ≡ cond (eqb (judgedNumber given (tablesOf (stored1 s))) 0) (cond (ltb room (length s)) 20 0) (judgedNumber given (tablesOf (stored1 s)))
   unfolding laterNumber judgedNumber firstBroken
-  later-is = one-after-other (judgedRows given (tablesOf s)) (row 20 (ltb room (length s)) ∷ []) refl
+  later-is = one-after-other (judgedRows given (tablesOf (stored1 s))) (row 20 (ltb room (length s)) ∷ []) refl
 
   -- refused by a rule on the tables
-  module _ (found : ℕ) (judged : found ≡ judgedNumber given (tablesOf s)) (ne : found ≢ 0) where
+  module _ (found : ℕ) (judged : found ≡ judgedNumber given (tablesOf (stored1 s))) (ne : found ≢ 0) where
     pub refused-number : found ≡ laterNumber given s room
     refused-number = sym (later-is ∙ rw (← judged, ne-eqb found 0 ne))
 
@@ -257,7 +257,7 @@ module _ (given : Bool) (s : List ℕ) (room : ℕ) where
     unfolding laterBytes
     refused-bytes = rw (← refused-number, ne-eqb found 0 ne)
 
-  module _ (judged : judgedNumber given (tablesOf s) ≡ 0) where
+  module _ (judged : judgedNumber given (tablesOf (stored1 s)) ≡ 0) where
     -- refused for want of room
     pub full-number : room < length s → laterNumber given s room ≡ 20
     full-number l = later-is ∙ rw (judged, lt-ltb room (length s) l)

@@ -7,7 +7,7 @@ ghost use mathlib.Core.Bool.{false};
 ghost use lib.ListN.{length, replicate};
 ghost use Rattle.laws.specs.Below.{anyBelow};
 ghost use Rattle.laws.specs.Links.{Empty};
-ghost use Rattle.stored.specs.Layout.{limits, assembled};
+ghost use Rattle.stored.specs.Layout.{version1, limits, assembled};
 ghost use Rattle.mesh_tables.specs.Tables.{tables};
 ghost use Rattle.check_refusals.specs.Refusals.{wrongCounts, badPiece};
 ghost use Rattle.check_refusals.specs.Bounded.{Bounded};
@@ -38,6 +38,9 @@ fn wrong_counts(most: Limits, coordinates: &[i16], corners: &[u16]) -> bool
     if (most.records as usize) < records {
         return true;
     }
+    if (most.base_records as usize) < records {
+        return true;
+    }
     if vertices < 4 {
         return true;
     }
@@ -65,7 +68,7 @@ fn put_vertices(base: &mut [u8], grown: &mut [u8], vertices: u32, records: u32, 
     ensures { λ _. ⌜ now (base .exit) ≡ verticesPut (now (base .entry)) (now (coordinates .entry)) vertices ⌝ }
     ensures { λ _. ⌜ now (grown .exit) ≡ now (grown .entry) ⌝ }
 {
-    let l = stored::working_layout(vertices, records);
+    let l = stored::working_layout(stored::version_1(), vertices, records);
     let mut i: u32 = 0;
     while i < vertices {
         stored_written::put_vertex(
@@ -90,7 +93,7 @@ fn put_records(
     ensures { λ _. ⌜ now (base .exit) ≡ now (base .entry) ⌝ }
     ensures { λ _. ⌜ now (grown .exit) ≡ recordsPut (now (grown .entry)) (now (coordinates .entry)) (now (corners .entry)) records ⌝ }
 {
-    let l = stored::working_layout(vertices, records);
+    let l = stored::working_layout(stored::version_1(), vertices, records);
     let mut i: u32 = 0;
     while i < records {
         stored_written::put_record(
@@ -166,13 +169,13 @@ fn judged_with<'a>(
 
 // The working memory of these rules is made here, and lent to them.
 fn judged<'a>(bad_given: bool, h: Header, l: Layout, base: &'a [u8], grown: &'a [u8]) -> u32
-    requires { ⌜ Bounded h ⌝ }
+    requires { ⌜ Bounded limits h ⌝ }
     ensures { λ r. ⌜ r ≡ judgedNumber «bad_given» (tables h l (now (base .entry)) (now (grown .entry))) ⌝ }
 {
     let mut heads = [0u16; chains::KEYS];
     let mut face_heads = [0u16; chains::FACE_KEYS];
     let mut links = [0u16; check_faces::FACES];
-    // "one count for each of the 1,024 possible vertices": [0; 1024]
+    // "one count for each of the 1,024 possible vertices"
     let mut uses = [0u16; stored::VERTICES];
     judged_with(
         bad_given,
@@ -196,18 +199,19 @@ fn finish<'a>(
     out: &mut [u8],
 ) -> u32
     requires { ⌜ Ready h (now vertices) (now records) (now out) ⌝ }
-    ensures { λ r. ⌜ r ≡ laterNumber «bad_given» (assembled h (now (vertices .entry)) (now (records .entry))) (length (now (out .entry))) ⌝ }
-    ensures { λ _. ⌜ now (out .exit) ≡ laterBytes «bad_given» (assembled h (now (vertices .entry)) (now (records .entry))) (length (now (out .entry))) ⌝ }
+    ensures { λ r. ⌜ r ≡ laterNumber «bad_given» (assembled version1 h (now (vertices .entry)) (now (records .entry))) (length (now (out .entry))) ⌝ }
+    ensures { λ _. ⌜ now (out .exit) ≡ laterBytes «bad_given» (assembled version1 h (now (vertices .entry)) (now (records .entry))) (length (now (out .entry))) ⌝ }
 {
-    let l = stored::working_layout(h.vertices, h.records);
+    let format = stored::version_1();
+    let l = stored::working_layout(format, h.vertices, h.records);
     let found = judged(bad_given, h, l, vertices, records);
     if found != 0 {
         return found;
     }
-    if out.len() < stored_headers::mesh_length(h.vertices, h.records) {
+    if out.len() < stored_headers::mesh_length(format, h.vertices, h.records) {
         return 20;
     }
-    stored_written::put_mesh(out, h, vertices, records);
+    stored_written::put_mesh(format, out, h, vertices, records);
     0
 }
 

@@ -2,8 +2,7 @@
 -- not given, as plain statements about the tables that the bytes hold.
 use mathlib.Core.Path.{_≡_}
 use mathlib.Core.Logic.{_↔_, _≢_, _⊎_}
-use mathlib.Core.List.{List}
-use Prim.Native.Nat.{ℕ, _+_, _≤_, _<_}
+use Prim.Native.Nat.{ℕ, _+_, _*_, _≤_, _<_}
 use lib.ListN.{length}
 use lib.IntN.{ℤ, pos, natAbs}
 use lib.Signed.{_≤ℤ_}
@@ -19,26 +18,27 @@ use Rattle.grid.specs.Corners.{Midpoint}
 use Rattle.grid_inside.specs.Weights.{WeightedMean}
 use Rattle.stored.specs.declared.Limits.{Limits}
 use Rattle.stored.specs.declared.Vertex.{Vertex}
-use Rattle.stored.specs.Layout.{none, limits, headerWidth, meshLength, byteAt, u16At}
+use Rattle.stored.specs.Layout.{none, Stored, headerOf, headerWidth, baseLength, grownLength, numberWidth, versionOf, byteAt, u16At}
 use Rattle.mesh_tables.specs.Tables.{Tables, tablesOf, baseVertices, allVertices, baseRecords, allRecords, pieceAt, refinementEnds, cornerPoint, signedAt, sixfoldAt}
 
 -- ---- 1 and 2: the bytes
 
-pub record RightLength (s : List ℕ) : Type 0 where
+pub record RightLength (s : Stored) : Type 0 where
   -- not "under 20 bytes"
-  pub header : headerWidth ≤ length s
-  -- the length is "20 + 10·vertices + 17·records"
-  pub exact : length s ≡ meshLength (allVertices (tablesOf s)) (allRecords (tablesOf s))
+  pub header : headerWidth (s .kind .format) ≤ length (s .base)
+  -- the length is "20 + 10·vertices + 17·records"; of two buffers each has its own part of them
+  pub exact : length (s .base) ≡ baseLength (s .kind) (headerOf s)
+  pub exact-grown : length (s .grown) ≡ grownLength (s .kind) (headerOf s)
 
-pub record RightMark (s : List ℕ) : Type 0 where
+pub record RightMark (s : Stored) : Type 0 where
   -- "`TMB` at 0"
-  pub T : byteAt s 0 ≡ 84
-  pub M : byteAt s 1 ≡ 77
-  pub B : byteAt s 2 ≡ 66
+  pub T : byteAt (s .base) 0 ≡ 84
+  pub M : byteAt (s .base) 1 ≡ 77
+  pub B : byteAt (s .base) 2 ≡ 66
   -- "version 1 (u16) at 3"
-  pub version : u16At s 3 ≡ 1
-  -- "a zero byte at 19"
-  pub zero-byte : byteAt s 19 ≡ 0
+  pub version : u16At (s .base) 3 ≡ versionOf (s .kind .format)
+  -- "a zero byte at 19": behind the four counts
+  pub zero-byte : byteAt (s .base) (11 + numberWidth (s .kind .format) * 4) ≡ 0
 
 -- ---- 3: the counts
 
@@ -279,13 +279,14 @@ pub record RightMesh (m : Tables) : Type 0 where
   -- 9: the records beyond the base, and the made vertices, are what cutting gives
   pub cuts : RightCuts m
 
-pub record Accepted (s : List ℕ) : Type 0 where
+pub record Accepted (s : Stored) : Type 0 where
   -- 1: not "under 20 bytes", and the length is "20 + 10·vertices + 17·records"
   pub length : RightLength s
   -- 2: no "wrong mark or version", and byte 19 is 0
   pub mark : RightMark s
   -- 3: "at most 1,024 vertices and 3,072 records"
-  pub limits : Within limits (tablesOf s)
+  pub limits : Within (s .kind .limits) (tablesOf s)
+  pub base-limit : baseRecords (tablesOf s) ≤ s .kind .limits .«base_records»
   -- the rest of 3, 4 to 9, 22 and 23
   pub mesh : RightMesh (tablesOf s)
   -- 10: no "hanging edge"

@@ -1,7 +1,6 @@
 -- Rules 9 and 10: the cuts, and the edges of the leaves.
 use mathlib.Core.Path.{_≡_, refl, sym, _∙_, subst}
 use mathlib.Core.Bool.{true}
-use mathlib.Core.List.{List}
 use Prim.Native.Nat.{ℕ, _+_, _≤_}
 use lib.ListN.{length, length-set}
 use Rattle.laws.specs.Below.{any-is, first-where, countBelow}
@@ -11,7 +10,7 @@ use Rattle.piece.specs.Shape.{lastGeneration}
 use Rattle.piece.specs.Ends.{endsOf, lowerEnd, higherEnd}
 use Rattle.piece.specs.Same.{samePiece, same-piece-is, same-piece-refl}
 use Rattle.piece_cut.specs.Cut.{childShape, childOf, cutOf}
-use Rattle.stored.specs.Layout.{none, recordIn, recordFrom}
+use Rattle.stored.specs.Layout.{none, Stored, recordIn, recordFrom}
 use Rattle.mesh_tables.specs.Tables.{Tables, tablesOf, baseVertices, allVertices, baseRecords, allRecords, pieceAt, isCut, hasParents, vertexWith, hangs, refinementEnds, hangsAt, leafHangs, hangingEdge}
 use Rattle.check_refusals.specs.Refusals.{badChildren, badCut, isChildOf, notChildOfOne, tooDeep, badRecord, isMidpointOf, noMidpoint, badCuts}
 use Rattle.check_meaning.specs.Tests.{Passes, Fails, reads, equal, at-most, not-at-most, not-below, not-fails, not-passes, fails-unless, and-passes, and-fails, or-passes, or-fails, any-passes, none-passes, first-passes}
@@ -25,7 +24,7 @@ pub record Four (p : Piece) : Type 0 where
   pub corners : length (p .corners) ≡ 4
   pub marks : length (p .marks) ≡ 4
 
-pub stored-four : (s : List ℕ) (n : ℕ) → Four (pieceAt (tablesOf s) n)
+pub stored-four : (s : Stored) (n : ℕ) → Four (pieceAt (tablesOf s) n)
 unfolding tablesOf recordIn recordFrom
 stored-four s n = record { corners = refl; marks = refl }
 

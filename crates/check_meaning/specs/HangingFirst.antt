@@ -2,14 +2,13 @@
 use mathlib.Core.Path.{_≡_, sym, ap, _∙_, subst}
 use mathlib.Core.Bool.{Bool, true, false, true≢false}
 use mathlib.Core.Logic.{_⊎_, inl, inr, ⊎-elim}
-use mathlib.Core.List.{List}
 use Prim.Native.Nat.{ℕ, _≤_, _<_}
 use native.Mathlib.Nat.{eq-or-lt-of-le}
 use lib.Dec.{ltb}
 use borrow.Author.Tests.{ltb-true, ltb-false}
 use Rattle.laws.specs.Below.{either, anyBelow, any-is, any-fails-at, firstBelow, first-where}
 use Rattle.piece.specs.Ends.{endsOf}
-use Rattle.stored.specs.Layout.{none}
+use Rattle.stored.specs.Layout.{none, Stored}
 use Rattle.mesh_tables.specs.Tables.{Tables, tablesOf, allVertices, allRecords, pieceAt, hangs, hangsAt, leafHangs, hangingEdge}
 use Rattle.check_refusals.specs.Check.{checkNumber, firstHanging, hangingReport, reportOf, checkOf}
 use Rattle.check_refusals.specs.Rows.{report-number}
@@ -70,7 +69,7 @@ module _ (m : Tables) where
       )
 
 -- With 10, record and edge are the first leaf edge that hangs, by record and then edge code.
-pub hanging-first : (s : List ℕ) → checkOf s .number ≡ 10 →
+pub hanging-first : (s : Stored) → checkOf s .number ≡ 10 →
     HangingEdge (tablesOf s) (checkOf s .«record») (checkOf s .edge)
     × ((n e : ℕ) → HangingEdge (tablesOf s) n e → (checkOf s .«record» < n) ⊎ ((checkOf s .«record» ≡ n) × (checkOf s .edge ≤ e)))
 unfolding checkOf reportOf

@@ -1,4 +1,4 @@
--- What check answers, for every byte string: document 01, "Numbers we give back", and document 02's 22 and 23.
+-- What check answers, for every stored mesh of every kind: document 01, "Numbers we give back", and document 02's 22 and 23.
 use mathlib.Core.Path.{_≡_, sym, _∙_}
 use mathlib.Core.Bool.{cond}
 use mathlib.Core.List.{List, [], _∷_, _++_}
@@ -8,7 +8,7 @@ use Rattle.laws.specs.Below.{countBelow, greatestBelow, sumBelow, firstBelow}
 use Rattle.laws.specs.Order.{Row, row, firstBroken}
 use Rattle.stored.specs.declared.Vertex.{Vertex}
 use Rattle.stored.specs.declared.Record.{Record}
-use Rattle.stored.specs.Layout.{limits, headerOf}
+use Rattle.stored.specs.Layout.{Stored, headerOf}
 use Rattle.check_refusals.specs.declared.Report.{Report}
 use Rattle.mesh_tables.specs.Tables.{Tables, tablesOf, allRecords, uncut, isLeaf, sixfoldAt, hangsAt, leafHangs, hangingEdge}
 use Rattle.check_refusals.specs.Refusals.{wrongLength, wrongMark, wrongCounts, badVertices, badBaseRecords, leftHandedRecords, badBaseMarks, badBaseFaces, unusedVertices, hangingVertices, badCuts}
@@ -34,11 +34,11 @@ unfoldable pub tableRows : Tables → List Row
 tableRows m = baseRows m ++ cutRows m
 
 -- Refusals 1 to 10 in the order of the numbers, 22 between 5 and 6, 23 between 8 and 9.
-unfoldable pub rows : List ℕ → List Row
-rows s = row 1 (wrongLength s) ∷ row 2 (wrongMark s) ∷ row 3 (wrongCounts limits (headerOf s)) ∷ tableRows (tablesOf s)
+unfoldable pub rows : Stored → List Row
+rows s = row 1 (wrongLength s) ∷ row 2 (wrongMark s) ∷ row 3 (wrongCounts (s .kind .limits) (headerOf s)) ∷ tableRows (tablesOf s)
 
 -- "The first rule broken, in the order of the numbers, names the refusal."; 0 where none is.
-unfoldable pub checkNumber : List ℕ → ℕ
+unfoldable pub checkNumber : Stored → ℕ
 checkNumber s = firstBroken (rows s)
 
 -- "leaves, greatest leaf generation and summed sixfold volume of the leaves"
@@ -81,14 +81,14 @@ reportOf m number =
     let other = cond (eqb number 10) hanging (refusedWith number) in
     cond (eqb number 0) good other
 
--- What check returns, for every byte string.
-unfoldable pub checkOf : List ℕ → Report
+-- What check returns, whatever the bytes are.
+unfoldable pub checkOf : Stored → Report
 checkOf s = reportOf (tablesOf s) (checkNumber s)
 
--- "Each public function states one outcome for each input": r is the one for the byte string s.
-abbrev pub CheckOutcomeIs : List ℕ → Report → Type 0
+-- "Each public function states one outcome for each input": r is the one for s.
+abbrev pub CheckOutcomeIs : Stored → Report → Type 0
 CheckOutcomeIs s r = r ≡ checkOf s
 
 -- "That no second outcome fits is itself proved"
-pub one-check : (s : List ℕ) (r r′ : Report) → CheckOutcomeIs s r → CheckOutcomeIs s r′ → r ≡ r′
+pub one-check : (s : Stored) (r r′ : Report) → CheckOutcomeIs s r → CheckOutcomeIs s r′ → r ≡ r′
 one-check s r r′ is is′ = is ∙ sym is′

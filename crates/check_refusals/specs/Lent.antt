@@ -37,8 +37,8 @@ pub record LentToCuts (h : Header) (heads links children midpoints : ℕ) : Type
   pub each-record : h .records ≤ children
   pub each-vertex : h .vertices ≤ midpoints
 
--- What versions 1 and 2 have: keys, a link for each face of the base records, and a count for each of the 1,024 possible vertices and the 3,072 possible records.
-module _ (h : Header) (b : Bounded h) where
+-- What version 1 has: keys, a link for each face of the base records, and a count for each possible vertex and each possible record.
+module _ (h : Header) (b : Bounded limits h) where
   pub lent-to-base : LentToBase h 8192 32768 (4 * limits .records) (limits .vertices)
   lent-to-base =
       record {

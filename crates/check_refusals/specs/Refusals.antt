@@ -19,26 +19,27 @@ use Rattle.stored.specs.declared.Limits.{Limits}
 use Rattle.stored.specs.declared.Header.{Header}
 use Rattle.stored.specs.declared.Vertex.{Vertex}
 use Rattle.stored.specs.declared.Record.{Record}
-use Rattle.stored.specs.Layout.{none, parentsOf, rightLength, rightMark}
+use Rattle.stored.specs.Layout.{none, parentsOf, Stored, rightLength, rightMark}
 use Rattle.mesh_tables.specs.Tables.{Tables, baseVertices, allVertices, baseRecords, allRecords, pieceAt, uncut, isCut, hasParents, vertexWith, refinementEnds, cornerPoint, sixfoldAt}
 
 -- ---- 1: "under 20 bytes, or length is not 20 + 10·vertices + 17·records"
 
-unfoldable pub wrongLength : List ℕ → Bool
-wrongLength s = not (rightLength s)
+unfoldable pub wrongLength : Stored → Bool
+wrongLength s = not (rightLength (s .kind) (s .base) (s .grown))
 
 -- ---- 2: "wrong mark or version, or byte 19 not 0"
 
-unfoldable pub wrongMark : List ℕ → Bool
-wrongMark s = not (rightMark s)
+unfoldable pub wrongMark : Stored → Bool
+wrongMark s = not (rightMark (s .kind .format) (s .base))
 
 -- ---- 3: "a count beyond its bounds, or base above all"
 
--- "At most 1,024 vertices and 3,072 records; at least 4 base vertices and 1 base record.": with other limits, other counts.
+-- "At most 1,024 vertices and 3,072 records; at least 4 base vertices and 1 base record.": with other limits, other counts, and a bound of its own on base records.
 unfoldable pub wrongCounts : Limits → Header → Bool
 wrongCounts most h =
     ltb (most .vertices) (h .vertices)
     || ltb (most .records) (h .records)
+    || ltb (most .«base_records») (h .«base_records»)
     || ltb (h .«base_vertices») 4
     || ltb (h .«base_records») 1
     || ltb (h .vertices) (h .«base_vertices»)

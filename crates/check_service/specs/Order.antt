@@ -2,13 +2,12 @@
 use mathlib.Core.Path.{_≡_, refl, sym, _∙_}
 use mathlib.Core.Bool.{true, false, not, cond}
 use mathlib.Core.Logic.{⊎-elim}
-use mathlib.Core.List.{List}
 use Prim.Native.Nat.{ℕ}
 use lib.Dec.{eqb}
 use borrow.Author.Tests.{not-true}
 use Rattle.laws.specs.Below.{either}
 use Rattle.laws.specs.Order.{firstBroken, given-passes, in-turn, one-after-other}
-use Rattle.stored.specs.Layout.{limits, headerOf, rightLength, rightMark}
+use Rattle.stored.specs.Layout.{Stored, headerOf, rightLength, rightMark}
 use Rattle.check_hanging.specs.Hanging.{foundOf, reported, found-reported}
 use Rattle.mesh_tables.specs.Tables.{Tables, tablesOf}
 use Rattle.check_refusals.specs.declared.Report.{Report}
@@ -44,25 +43,25 @@ module _ (m : Tables) where
       rw (one-after-other (baseRows m) (cutRows m) refl)
       (⊎-elim (λ t. rw t cuts-reported) (λ f. rw f (base-reported f)) (either (eqb (firstBroken (baseRows m)) 0)))
 
-module _ (s : List ℕ) where
-  pub verdict-1 : rightLength s ≡ false → refusedWith 1 ≡ withoutFigures (checkOf s)
+module _ (s : Stored) where
+  pub verdict-1 : rightLength (s .kind) (s .base) (s .grown) ≡ false → refusedWith 1 ≡ withoutFigures (checkOf s)
   unfolding checkOf checkNumber rows firstBroken reportOf wrongLength
   verdict-1 e = rw e
 
-  pub verdict-2 : rightLength s ≡ true → rightMark s ≡ false → refusedWith 2 ≡ withoutFigures (checkOf s)
+  pub verdict-2 : rightLength (s .kind) (s .base) (s .grown) ≡ true → rightMark (s .kind .format) (s .base) ≡ false → refusedWith 2 ≡ withoutFigures (checkOf s)
   unfolding checkOf checkNumber rows firstBroken reportOf wrongLength wrongMark
   verdict-2 e f = rw (e, f)
 
-  pub verdict-3 : rightLength s ≡ true → rightMark s ≡ true → wrongCounts limits (headerOf s) ≡ true → refusedWith 3 ≡ withoutFigures (checkOf s)
+  pub verdict-3 : rightLength (s .kind) (s .base) (s .grown) ≡ true → rightMark (s .kind .format) (s .base) ≡ true → wrongCounts (s .kind .limits) (headerOf s) ≡ true → refusedWith 3 ≡ withoutFigures (checkOf s)
   unfolding checkOf checkNumber rows firstBroken reportOf wrongLength wrongMark
   verdict-3 e f g = rw (e, f, g)
 
-  pub verdict-rest : rightLength s ≡ true → rightMark s ≡ true → wrongCounts limits (headerOf s) ≡ false → judgedReport (tablesOf s) ≡ withoutFigures (checkOf s)
+  pub verdict-rest : rightLength (s .kind) (s .base) (s .grown) ≡ true → rightMark (s .kind .format) (s .base) ≡ true → wrongCounts (s .kind .limits) (headerOf s) ≡ false → judgedReport (tablesOf s) ≡ withoutFigures (checkOf s)
   unfolding checkOf checkNumber rows firstBroken wrongLength wrongMark
   verdict-rest e f g = rw (e, f, g) (judged-reported (tablesOf s))
 
   -- Where rules 1 to 9, 22 and 23 hold, what check reports, but for the figures, is the paper's number and values for what the search found.
-  pub verdict-found : rightLength s ≡ true → rightMark s ≡ true → wrongCounts limits (headerOf s) ≡ false → let m = tablesOf s in
+  pub verdict-found : rightLength (s .kind) (s .base) (s .grown) ≡ true → rightMark (s .kind .format) (s .base) ≡ true → wrongCounts (s .kind .limits) (headerOf s) ≡ false → let m = tablesOf s in
       badVertices m ≡ false → badBaseRecords m ≡ false → leftHandedRecords m ≡ false → badBaseMarks m ≡ false → badBaseFaces m ≡ false → unusedVertices m ≡ false → hangingVertices m ≡ false → badCuts m ≡ false →
       withoutFigures (checkOf s) ≡ reported (foundOf m)
   unfolding judgedReport cutsReport baseNumber firstBroken

@@ -8,6 +8,7 @@ ghost use mathlib.Core.Path.{_≡_};
 ghost use Prim.Native.Nat.{_^_, _<_};
 ghost use lib.ListN.{length};
 ghost use Rattle.laws.specs.Links.{Empty};
+ghost use Rattle.stored.specs.Layout.{limits, stored1};
 ghost use Rattle.mesh_tables.specs.Tables.{tables};
 ghost use Rattle.check_refusals.specs.Refusals.{wrongCounts};
 ghost use Rattle.check_refusals.specs.Check.{refusedWith, sixfold, accepted, CheckOutcomeIs};
@@ -45,6 +46,9 @@ fn wrong_counts(most: Limits, h: Header) -> bool
         return true;
     }
     if most.records < h.records {
+        return true;
+    }
+    if most.base_records < h.base_records {
         return true;
     }
     if h.base_vertices < 4 {
@@ -170,13 +174,13 @@ fn judged_with<'a>(
 
 // The working memory of all rules is made here, and lent to them.
 fn judged<'a>(h: Header, l: Layout, base: &'a [u8], grown: &'a [u8]) -> Report
-    requires { ⌜ Bounded h ⌝ }
+    requires { ⌜ Bounded limits h ⌝ }
     ensures { λ r. ⌜ r ≡ judgedReport (tables h l (now (base .entry)) (now (grown .entry))) ⌝ }
 {
     let mut heads = [0u16; chains::KEYS];
     let mut face_heads = [0u16; chains::FACE_KEYS];
     let mut links = [0u16; check_faces::FACES];
-    // "one count for each of the 1,024 possible vertices": [0; 1024]
+    // "one count for each of the 1,024 possible vertices"
     let mut uses = [0u16; stored::VERTICES];
     let mut children = [0u16; stored::RECORDS];
     judged_with(
@@ -194,19 +198,22 @@ fn judged<'a>(h: Header, l: Layout, base: &'a [u8], grown: &'a [u8]) -> Report
 
 // Check's answer without the figures.
 pub fn verdict(mesh: &[u8]) -> Report
-    ensures { λ r. ⌜ VerdictIs (now (mesh .entry)) r ⌝ }
+    ensures { λ r. ⌜ VerdictIs (stored1 (now (mesh .entry))) r ⌝ }
 {
-    if !stored_headers::right_length(mesh) {
+    let k = stored::kind_1();
+    let format = k.format;
+    let nothing = &mesh[..0];
+    if !stored_headers::right_length(k, mesh, nothing) {
         return refused(1);
     }
-    if !stored_headers::right_mark(mesh) {
+    if !stored_headers::right_mark(format, mesh) {
         return refused(2);
     }
-    let h = stored_headers::header_of(mesh);
-    if wrong_counts(stored::limits_of_version_1(), h) {
+    let h = stored_headers::header_from(format, mesh);
+    if wrong_counts(k.limits, h) {
         return refused(3);
     }
-    judged(h, stored::layout_of(h), mesh, mesh)
+    judged(h, stored::layout_of(k, h), mesh, nothing)
 }
 
 // What the tables are accepted with: a u64 holds the sum of their leaves' volumes, which is their base's.
@@ -225,12 +232,13 @@ fn accepted_with<'a>(h: Header, l: Layout, base: &'a [u8], grown: &'a [u8]) -> R
 }
 
 pub fn check(mesh: &[u8]) -> Report
-    ensures { λ r. ⌜ CheckOutcomeIs (now (mesh .entry)) r ⌝ }
+    ensures { λ r. ⌜ CheckOutcomeIs (stored1 (now (mesh .entry))) r ⌝ }
 {
     let r = verdict(mesh);
     if r.number != 0 {
         return r;
     }
-    let h = stored_headers::header_of(mesh);
-    accepted_with(h, stored::layout_of(h), mesh, mesh)
+    let k = stored::kind_1();
+    let h = stored_headers::header_from(k.format, mesh);
+    accepted_with(h, stored::layout_of(k, h), mesh, &mesh[..0])
 }

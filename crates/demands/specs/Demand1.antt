@@ -13,6 +13,7 @@
 -- "The inputs stand as they were": each input is a shared borrow (`&[u8]`, `&[i16]`, `&[u16]`), through which nothing can be written; `out` is the
 -- only `&mut`.
 use mathlib.Core.Path.{_≡_, _∙_}
+use mathlib.Core.Bool.{false}
 use mathlib.Core.Logic.{_≢_, _⊎_, inl, inr, ⊎-elim}
 use mathlib.Core.List.{List, [], _∷_, _++_}
 use Prim.Native.Nat.{ℕ, _≤_, _<_}
@@ -25,7 +26,8 @@ use Rattle.laws.specs.Below.{either}
 use Rattle.mesh_tables.specs.Tables.{tablesOf}
 use Rattle.laws.specs.Lists.{zeroPast, Bytes}
 use Rattle.laws.specs.Order.{OneOf}
-use Rattle.stored.specs.Layout.{limits, meshLength, headerOf, Mesh, meshBytes}
+use Rattle.stored.specs.declared.Kind.{Kind}
+use Rattle.stored.specs.Layout.{version1, limits, kind1, meshLength, baseLength, grownLength, headerFrom, Mesh, meshBytes, Stored, stored1, headerOf, StoredSelection}
 use Rattle.check_refusals.specs.declared.Report.{Report}
 use Rattle.check_refusals.specs.Check.{checkNumber, checkOf}
 use Rattle.check_meaning.specs.HangingFirst.{HangingEdge, hanging-first}
@@ -45,12 +47,12 @@ use Rattle.demands.specs.Demand3.{RefinedFrom, any-room}
 
 -- ---- the words
 
--- What check answers, for a byte string.
-pub record CheckOutcome (s : List ℕ) (r : Report) : Type 0 where
-  -- Accepted, and then it is as long as its header says, "20 + 10·vertices + 17·records"; or refused with one of 1 to 10, 22 or 23, and then leaves, depth and
+-- What check answers, for a stored mesh of any kind, whatever its bytes are.
+pub record CheckOutcome (s : Stored) (r : Report) : Type 0 where
+  -- Accepted, and then it is as long as its header says, "20 + 10·vertices + 17·records", each buffer its part; or refused with one of 1 to 10, 22 or 23, and then leaves, depth and
   -- volume are 0.
   pub either :
-      ((r .number ≡ 0) × (length s ≡ meshLength (headerOf s .vertices) (headerOf s .records)))
+      ((r .number ≡ 0) × (length (s .base) ≡ baseLength (s .kind) (headerOf s)) × (length (s .grown) ≡ grownLength (s .kind) (headerOf s)))
       ⊎ (OneOf checkNumbers (r .number) × (r .leaves ≡ 0) × (r .deepest ≡ 0) × (r .sixfold ≡ 0))
   -- "with 10 it also returns the first leaf edge found hanging, by record and then edge code; with any other answer both are 0"
   pub hanging : r .number ≡ 10 → HangingEdge (tablesOf s) (r .«record») (r .edge)
@@ -58,46 +60,46 @@ pub record CheckOutcome (s : List ℕ) (r : Report) : Type 0 where
   pub hanging-record : r .number ≢ 10 → r .«record» ≡ 0
   pub hanging-edge : r .number ≢ 10 → r .edge ≡ 0
 
--- "A mesh": what an output buffer of this length holds after acceptance.
-pub record MeshIn (out : List ℕ) (room : ℕ) : Type 0 where
+-- "A mesh": what an output buffer of this length holds after acceptance, of a kind in one buffer.
+pub record MeshIn (k : Kind) (out : List ℕ) (room : ℕ) : Type 0 where
   -- There is a mesh.
   pub mesh : Mesh
   -- It has as many vertices as its header says.
   pub vertices : length (mesh .vertices) ≡ mesh .header .vertices
   -- It has as many records as its header says.
   pub records : length (mesh .records) ≡ mesh .header .records
-  -- They are "at most 1,024 vertices".
-  pub few-vertices : mesh .header .vertices ≤ limits .vertices
+  -- They are "at most 1,024 vertices", or as many as the kind may have.
+  pub few-vertices : mesh .header .vertices ≤ k .limits .vertices
   -- They are at most "3,072 records".
-  pub few-records : mesh .header .records ≤ limits .records
+  pub few-records : mesh .header .records ≤ k .limits .records
   -- Its bytes come first, and the buffer "is zero past the result".
-  pub bytes : out ≡ zeroPast room (meshBytes mesh)
+  pub bytes : out ≡ zeroPast room (meshBytes (k .format) mesh)
   -- They are as many as the header says: "20 + 10·vertices + 17·records".
-  pub as-long : length (meshBytes mesh) ≡ meshLength (mesh .header .vertices) (mesh .header .records)
+  pub as-long : length (meshBytes (k .format) mesh) ≡ meshLength (k .format) (mesh .header .vertices) (mesh .header .records)
   -- The buffer has room for them.
-  pub within : length (meshBytes mesh) ≤ room
+  pub within : length (meshBytes (k .format) mesh) ≤ room
   -- Whoever reads the buffer finds that header.
-  pub header : headerOf out ≡ mesh .header
+  pub header : headerFrom (k .format) out ≡ mesh .header
 
 -- What build answers, for a job number, coordinates and corners, and a length of the output buffer.
 pub record BuildOutcome (job : ℕ) (coordinates : List ℤ) (corners : List ℕ) (room number : ℕ) (bytes : List ℕ) : Type 0 where
   -- "either a mesh", which check accepts; "or a numbered refusal", one of those that build tries, "21, then 3, 4, 5, 7, 8, 20" with 23 "before 20", and "all zeros".
   pub either :
-      ((number ≡ 0) × (out : MeshIn bytes room) × (checkNumber (meshBytes (out .mesh)) ≡ 0))
+      ((number ≡ 0) × (out : MeshIn kind1 bytes room) × (checkNumber (stored1 (meshBytes version1 (out .mesh))) ≡ 0))
       ⊎ (OneOf (21 ∷ 3 ∷ 4 ∷ 5 ∷ 7 ∷ 8 ∷ 23 ∷ 20 ∷ []) number × (bytes ≡ replicate room 0))
   -- The output buffer keeps its length.
   pub length : length bytes ≡ room
 
--- What refine answers, for two byte strings and a length of the output buffer.
-pub record RefineOutcome (mesh selection : List ℕ) (room number : ℕ) (bytes : List ℕ) : Type 0 where
+-- What refine answers, for a mesh and a selection, whatever their bytes are, and a length of the output buffer.
+pub record RefineOutcome (mesh : Stored) (selection : StoredSelection) (room number : ℕ) (bytes : List ℕ) : Type 0 where
   -- "either a mesh", "or a numbered refusal", one of 1 to 20, 22 or 23, and "all zeros".
   pub either :
-      ((number ≡ 0) × MeshIn bytes room)
+      ((number ≡ 0) × MeshIn (mesh .kind) bytes room)
       ⊎ (OneOf (checkNumbers ++ (11 ∷ 12 ∷ 13 ∷ 14 ∷ 15 ∷ 16 ∷ 17 ∷ 18 ∷ 19 ∷ 20 ∷ [])) number × (bytes ≡ replicate room 0))
   -- The output buffer keeps its length.
   pub length : length bytes ≡ room
   -- Which mesh it is, whatever the buffer's length: what demand 3 says of the least closing set, and that set alone.
-  pub refined : number ≡ 0 → (x : StoredMesh mesh) → RefinedFrom x selection bytes room
+  pub refined : mesh .kind .two ≡ false → number ≡ 0 → (x : StoredMesh mesh) → RefinedFrom x selection bytes room
 
 -- What list answers, for a byte string and a length of the output buffer, and which lines it writes. No contract can say what a program writes: the program
 -- `list` writes what this function gives.
@@ -110,11 +112,11 @@ pub record ListOutcome (s : List ℕ) (room : ℕ) (r : Listed) (out : List ℕ)
   -- 393,344 bytes hold every listing.
   pub enough : largestListing ≤ room → length (listingOf s) ≤ room
   -- "Input longer than the largest mesh is refused with 1 here": "one line, `refused ` and the number".
-  pub too-long : meshLength (limits .vertices) (limits .records) < length s → linesOf s ≡ refusedLine 1 ∷ []
+  pub too-long : meshLength version1 (limits .vertices) (limits .records) < length s → linesOf s ≡ refusedLine 1 ∷ []
   -- What check refuses is refused with its number, in one line.
-  pub refused : length s ≤ meshLength (limits .vertices) (limits .records) → checkOf s .number ≢ 0 → linesOf s ≡ refusedLine (checkOf s .number) ∷ []
+  pub refused : length s ≤ meshLength version1 (limits .vertices) (limits .records) → checkOf (stored1 s) .number ≢ 0 → linesOf s ≡ refusedLine (checkOf (stored1 s) .number) ∷ []
   -- What check accepts is listed: "one heading line [..], then each leaf in rising record number".
-  pub accepted : length s ≤ meshLength (limits .vertices) (limits .records) → checkOf s .number ≡ 0 → linesOf s ≡ meshLines (tablesOf s) (checkOf s)
+  pub accepted : length s ≤ meshLength version1 (limits .vertices) (limits .records) → checkOf (stored1 s) .number ≡ 0 → linesOf s ≡ meshLines (tablesOf (stored1 s)) (checkOf (stored1 s))
   -- "Every line ends with a line feed", whose byte is 10.
   pub line-feed : (k : ℕ) → k < length (linesOf s) → (text : List ℕ) × (getD (linesOf s) k [] ≡ text ++ 10 ∷ [])
   -- "Each line is set in a 128-byte line buffer": none is longer.
@@ -122,12 +124,12 @@ pub record ListOutcome (s : List ℕ) (room : ℕ) (r : Listed) (out : List ℕ)
 
 -- ---- the theorems
 
--- Every byte string has one of check's outcomes.
-pub check-outcome : (s : List ℕ) → CheckOutcome s (checkOf s)
+-- Every stored mesh has one of check's outcomes.
+pub check-outcome : (s : Stored) → CheckOutcome s (checkOf s)
 check-outcome s =
     record {
       either = ⊎-elim
-          (λ e. inl (e, accepted-length s e))
+          (λ e. let long = accepted-length s e in inl (e, long .0, long .1))
           (λ n. let f = refused-figures s n in inr (⊎-elim (λ e. absurd (n e)) (λ other. other) (check-number s), f .0, f .1, f .2))
           (zero-or-not (checkOf s .number));
       hanging = λ e. hanging-first s e .0;
@@ -148,7 +150,7 @@ build-outcome job coordinates corners types room =
       length = Build.output-length job coordinates corners room;
     }
   where
-    built : buildNumber job coordinates corners room ≡ 0 → MeshIn (buildBytes job coordinates corners room) room
+    built : buildNumber job coordinates corners room ≡ 0 → MeshIn kind1 (buildBytes job coordinates corners room) room
     built e =
         record {
           mesh = plainMesh job coordinates corners;
@@ -162,8 +164,8 @@ build-outcome job coordinates corners types room =
           header = built-header job coordinates corners room e (given-by-types job coordinates corners types);
         }
 
--- Every two byte strings and every length of the output buffer have one of refine's.
-pub refine-outcome : (mesh selection : List ℕ) → Bytes mesh → (room : ℕ) → RefineOutcome mesh selection room (refineNumber mesh selection room) (refineBytes mesh selection room)
+-- Every mesh, every selection and every length of the output buffer have one of refine's.
+pub refine-outcome : (mesh : Stored) (selection : StoredSelection) → Bytes (mesh .base) → (room : ℕ) → RefineOutcome mesh selection room (refineNumber mesh selection room) (refineBytes mesh selection room)
 refine-outcome mesh selection b room =
     record {
       either = ⊎-elim
@@ -171,10 +173,10 @@ refine-outcome mesh selection b room =
           (λ n. inr (⊎-elim (λ e. absurd (n e)) (λ other. other) (refine-number mesh selection room), refine-refused mesh selection room n))
           (zero-or-not (refineNumber mesh selection room));
       length = refine-length mesh selection room;
-      refined = λ e x. any-room mesh x selection room e;
+      refined = λ one e x. any-room mesh one x selection room e;
     }
   where
-    refined : refineNumber mesh selection room ≡ 0 → MeshIn (refineBytes mesh selection room) room
+    refined : refineNumber mesh selection room ≡ 0 → MeshIn (mesh .kind) (refineBytes mesh selection room) room
     refined e =
         record {
           mesh = resultOf (closed mesh selection);

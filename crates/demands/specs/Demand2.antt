@@ -11,7 +11,7 @@ use Prim.Native.Nat.{ℕ, _+_, _*_, _≤_, _<_}
 use lib.ListN.{length, getD}
 use lib.IntN.{ℤ, pos}
 use Rattle.laws.specs.Lists.{zeroPast, Bytes}
-use Rattle.stored.specs.Layout.{limits, meshBytes}
+use Rattle.stored.specs.Layout.{meshBytes, Stored, StoredSelection}
 use Rattle.check_refusals.specs.Rows.{report-number}
 use Rattle.check_meaning.specs.Exactly.{accepts-exactly}
 use Rattle.build_service.specs.Build.{plainBytes}
@@ -27,7 +27,7 @@ use Rattle.demands_words.specs.Words.{BaseMesh, named, pointAt, ProperlyMarked,
 use Rattle.demands_words.specs.Services.{Services, ours}
 use Rattle.demands_proofs.specs.StoredOf.{stored-of-accepted}
 use Rattle.demands_proofs.specs.AcceptedOf.{accepted-of-stored}
-use Rattle.demands_proofs.specs.StoredBytes.{stored-bytes}
+use Rattle.demands_proofs.specs.StoredBytes.{stored-bytes, stored-grown-bytes}
 use Rattle.demands_proofs.specs.StoredFigures.{stored-figures, stored-one-base, stored-one-set}
 use Rattle.demands_proofs.specs.OneNumbering.{stored-one-job, stored-one-round, stored-one-numbering}
 use Rattle.demands_proofs.specs.Exact.{exact-halfway}
@@ -37,20 +37,20 @@ use Rattle.demands_proofs.specs.BuildStores.{built}
 use Rattle.demands_proofs.specs.ClosedProof.{good-accepted}
 
 -- The mesh that the closing of a stored mesh and a selection gives, as bytes.
-abbrev pub closedBytes : List ℕ → List ℕ → List ℕ
-closedBytes mesh selection = meshBytes (resultOf (closed mesh selection))
+abbrev pub closedBytes : Stored → StoredSelection → List ℕ
+closedBytes mesh selection = meshBytes (mesh .kind .format) (resultOf (closed mesh selection))
 
--- It has at most 1,024 vertices and 3,072 records, and a buffer of so many bytes holds it.
-pub record ClosedFits (mesh selection : List ℕ) (room : ℕ) : Type 0 where
-  pub vertices : closed mesh selection .header .vertices ≤ limits .vertices
-  pub records : closed mesh selection .header .records ≤ limits .records
+-- It has at most 1,024 vertices and 3,072 records, or what its kind's limits have it, and a buffer of so many bytes holds it.
+pub record ClosedFits (mesh : Stored) (selection : StoredSelection) (room : ℕ) : Type 0 where
+  pub vertices : closed mesh selection .header .vertices ≤ mesh .kind .limits .vertices
+  pub records : closed mesh selection .header .records ≤ mesh .kind .limits .records
   pub fits-room : length (closedBytes mesh selection) ≤ room
 
 pub record MeetsDemand2 (S : Services) : Type 0 where
   -- "A stored mesh is accepted exactly when it is a set of such cuts of a properly marked base mesh with no hanging edge, within 01's limits"
-  pub accepted-exactly : (s : List ℕ) → (Bytes s × (S .check s .number ≡ 0)) ↔ StoredMesh s
+  pub accepted-exactly : (s : Stored) → ((Bytes (s .base) × Bytes (s .grown)) × (S .check s .number ≡ 0)) ↔ StoredMesh s
   -- "the leaves, depth and volume reported are that set's."
-  pub figures : (s : List ℕ) (x : StoredMesh s) → Figures (x .base) (x .cuts) (S .check s .leaves) (S .check s .deepest) (S .check s .sixfold)
+  pub figures : (s : Stored) (x : StoredMesh s) → Figures (x .base) (x .cuts) (S .check s .leaves) (S .check s .deepest) (S .check s .sixfold)
   -- Build accepts exactly what document 01 asks of its lists and its buffer; what it stores is the base mesh that the lists say, with the last two corners of
   -- each left-handed piece exchanged, properly marked by the ranking, with nothing cut; and "to the byte".
   pub build-accepts : (job : ℕ) (coordinates : List ℤ) (corners : List ℕ) → ArgumentTypes job coordinates corners → (room : ℕ) →
@@ -60,8 +60,8 @@ pub record MeetsDemand2 (S : Services) : Type 0 where
   pub marking : (job : ℕ) (coordinates : List ℤ) (corners : List ℕ) → ArgumentTypes job coordinates corners → (room : ℕ) → S .build job coordinates corners room ≡ 0 →
       S .buildOut job coordinates corners room ≡ zeroPast room (plainBytes job coordinates corners)
   -- Refine of a stored mesh and a good selection accepts exactly where the closed result fits, and gives that result, "to the byte".
-  pub refine-accepts : (s : List ℕ) (x : StoredMesh s) (selection : List ℕ) → GoodFor x selection → (room : ℕ) → (S .refine s selection room ≡ 0) ↔ ClosedFits s selection room
-  pub closing : (s : List ℕ) (x : StoredMesh s) (selection : List ℕ) → GoodFor x selection → (room : ℕ) → S .refine s selection room ≡ 0 →
+  pub refine-accepts : (s : Stored) (x : StoredMesh s) (selection : StoredSelection) → GoodFor x selection → (room : ℕ) → (S .refine s selection room ≡ 0) ↔ ClosedFits s selection room
+  pub closing : (s : Stored) (x : StoredMesh s) (selection : StoredSelection) → GoodFor x selection → (room : ℕ) → S .refine s selection room ≡ 0 →
       S .refineOut s selection room ≡ zeroPast room (closedBytes s selection)
 
 -- Ours meet it.
@@ -69,8 +69,8 @@ pub demand-2 : MeetsDemand2 ours
 demand-2 =
     record {
       accepted-exactly = λ s. (
-        λ (bytes, e). stored-of-accepted s bytes (accepts-exactly s .0 (sym (report-number s) ∙ e)),
-        λ x. (stored-bytes s x, report-number s ∙ accepts-exactly s .1 (accepted-of-stored s x)),
+        λ ((bytes, grown), e). stored-of-accepted s bytes grown (accepts-exactly s .0 (sym (report-number s) ∙ e)),
+        λ x. ((stored-bytes s x, stored-grown-bytes s x), report-number s ∙ accepts-exactly s .1 (accepted-of-stored s x)),
       );
       figures = stored-figures;
       build-accepts = λ job coordinates corners types room. build-exactly job coordinates corners room (given-by-types job coordinates corners types) .gives-0;
@@ -83,21 +83,21 @@ demand-2 =
       closing = λ s x selection good room. Refine.accepted-bytes s selection room;
     }
 
--- ---- a byte string stores one job, one round, one base, one set and one numbering only
+-- ---- a stored mesh stores one job, one round, one base, one set and one numbering only
 
-pub one-job : (s : List ℕ) (x x′ : StoredMesh s) → x .job ≡ x′ .job
+pub one-job : (s : Stored) (x x′ : StoredMesh s) → x .job ≡ x′ .job
 one-job = stored-one-job
 
-pub one-round : (s : List ℕ) (x x′ : StoredMesh s) → x .round ≡ x′ .round
+pub one-round : (s : Stored) (x x′ : StoredMesh s) → x .round ≡ x′ .round
 one-round = stored-one-round
 
-pub one-base : (s : List ℕ) (x x′ : StoredMesh s) → SameBase (x .base) (x′ .base)
+pub one-base : (s : Stored) (x x′ : StoredMesh s) → SameBase (x .base) (x′ .base)
 one-base = stored-one-base
 
-pub one-set : (s : List ℕ) (x x′ : StoredMesh s) (n : Node) → x .cuts .has n ≡ x′ .cuts .has n
+pub one-set : (s : Stored) (x x′ : StoredMesh s) (n : Node) → x .cuts .has n ≡ x′ .cuts .has n
 one-set = stored-one-set
 
-pub one-numbering : (s : List ℕ) (x x′ : StoredMesh s) → SameNumbering (x .base) (x .stores .numbers) (x′ .stores .numbers)
+pub one-numbering : (s : Stored) (x x′ : StoredMesh s) → SameNumbering (x .base) (x .stores .numbers) (x′ .stores .numbers)
 one-numbering = stored-one-numbering
 
 -- ---- the grid

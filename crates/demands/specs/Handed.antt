@@ -11,6 +11,7 @@ use lib.IntN.{ℤ, pos, _*ℤ_}
 use lib.Seq.{sets}
 use lib.Signed.{_<ℤ_}
 use Rattle.piece.specs.Shape.{lastGeneration}
+use Rattle.stored.specs.Layout.{Stored, stored1}
 use Rattle.mesh_tables.specs.Tables.{tablesOf, allRecords, signedAt}
 use Rattle.check_refusals.specs.Check.{checkNumber}
 use Rattle.check_meaning.specs.Accepted.{Cut, firstChild}
@@ -34,7 +35,7 @@ pub halved : (b : BaseMesh) → ProperlyMarked b → (n : Node) → n .root < b 
 halved = Proved.halved
 
 -- Every piece of a stored mesh is right-handed, whichever record it is.
-pub right-handed : (s : List ℕ) (x : StoredMesh s) (r : ℕ) → r < x .stores .numbers .records → pos 0 <ℤ Words.signedAt (x .base) (x .stores .numbers .nodeAt r)
+pub right-handed : (s : Stored) (x : StoredMesh s) (r : ℕ) → r < x .stores .numbers .records → pos 0 <ℤ Words.signedAt (x .base) (x .stores .numbers .nodeAt r)
 right-handed s x r h =
     let there = x .stores .records-numbered .there r h in
     Proved.right-handed (x .base) (x .right .marked) (x .stores .numbers .nodeAt r) (there-rooted (x .cuts) (x .stores .numbers .nodeAt r) there) (x .right .shallow (x .stores .numbers .nodeAt r) there)
@@ -42,11 +43,11 @@ right-handed s x r h =
 -- ---- over bytes: what check accepts
 
 -- Every record of a mesh that check accepts is right-handed.
-pub records-right-handed : (s : List ℕ) → checkNumber s ≡ 0 → (n : ℕ) → n < allRecords (tablesOf s) → pos 0 <ℤ signed (tablesOf s) n
+pub records-right-handed : (s : Stored) → checkNumber s ≡ 0 → (n : ℕ) → n < allRecords (tablesOf s) → pos 0 <ℤ signed (tablesOf s) n
 records-right-handed s e = every-right-handed (tablesOf s) (accepts-exactly s .0 e .mesh) (stored-four s)
 
 -- And each child of a cut record has half its value.
-pub records-halved : (s : List ℕ) → checkNumber s ≡ 0 → let m = tablesOf s in (n : ℕ) → n < allRecords m → Cut m n →
+pub records-halved : (s : Stored) → checkNumber s ≡ 0 → let m = tablesOf s in (n : ℕ) → n < allRecords m → Cut m n →
     (pos 2 *ℤ signed m (firstChild m n) ≡ signed m n) × (pos 2 *ℤ signed m (firstChild m n + 1) ≡ signed m n)
 records-halved s e n l cut =
     let a = accepts-exactly s .0 e .mesh in
@@ -63,7 +64,7 @@ built-as-given coordinates corners room asked = as-given coordinates corners (as
 -- ---- K, worked by hand
 
 -- "K is right-handed and keeps its row": its sixfold volume is its signed value.
-pub K-signed : signed (tablesOf K) 0 ≡ pos 262144
+pub K-signed : signed (tablesOf (stored1 K)) 0 ≡ pos 262144
 unfolding refine-computed signedAt
 K-signed = refl
 
@@ -80,15 +81,15 @@ unfolding build-computed refine-computed
 K-turned-bytes = refl
 
 -- K's bytes with the corners in slots 2 and 3 of its record exchanged: 22, whatever its marks are then.
-pub K-left-refused : checkNumber (sets K 64 (3 ∷ 0 ∷ 2 ∷ 0 ∷ [])) ≡ 22
+pub K-left-refused : checkNumber (stored1 (sets K 64 (3 ∷ 0 ∷ 2 ∷ 0 ∷ []))) ≡ 22
 unfolding refine-computed checkNumber
 K-left-refused = refl
 
 -- With an edge code above 5 besides, which is 6: 22 is tried before. With a flag set besides, which is 5: 5 is tried before.
-pub K-left-before-6 : checkNumber (sets K 64 (3 ∷ 0 ∷ 2 ∷ 0 ∷ 9 ∷ [])) ≡ 22
+pub K-left-before-6 : checkNumber (stored1 (sets K 64 (3 ∷ 0 ∷ 2 ∷ 0 ∷ 9 ∷ []))) ≡ 22
 unfolding refine-computed checkNumber
 K-left-before-6 = refl
 
-pub K-left-after-5 : checkNumber (sets (sets K 64 (3 ∷ 0 ∷ 2 ∷ 0 ∷ [])) 73 (1 ∷ [])) ≡ 5
+pub K-left-after-5 : checkNumber (stored1 (sets (sets K 64 (3 ∷ 0 ∷ 2 ∷ 0 ∷ [])) 73 (1 ∷ []))) ≡ 5
 unfolding refine-computed checkNumber
 K-left-after-5 = refl

@@ -14,11 +14,13 @@ use native.Mathlib.Omega.{arith}
 use lib.IntN.{ℤ, pos, negsuc, _+ℤ_, _*ℤ_}
 use lib.Seq.{sets}
 use lib.Signed.{_<ℤ_}
+use Rattle.laws.specs.Lists.{bytes-none}
 use Rattle.grid.specs.Places.{Point}
 use Rattle.grid_volume.specs.Volume.{signedOf}
 use Rattle.grid_inside.specs.Inside.{partOf, liesIn}
 use Rattle.grid_inside.specs.Parts.{parts-sum, parts-mean-x, parts-mean-y, parts-mean-z}
 use Rattle.grid_inside.specs.Weights.{WeightedMean, closed-exactly}
+use Rattle.stored.specs.Layout.{Stored, stored1}
 use Rattle.mesh_tables.specs.Tables.{tablesOf}
 use Rattle.check_refusals.specs.Check.{checkNumber}
 use Rattle.check_refusals.specs.Rows.{report-number}
@@ -55,16 +57,16 @@ module _ (corner : ℕ → Point) (v : Point) where
 
 -- ---- over bytes: what check accepts, and what it gives 23 for
 
-pub no-vertex-hangs : (s : List ℕ) → checkNumber s ≡ 0 → Tables.NoVertexHangs (tablesOf s)
+pub no-vertex-hangs : (s : Stored) → checkNumber s ≡ 0 → Tables.NoVertexHangs (tablesOf s)
 no-vertex-hangs s e = accepts-exactly s .0 e .mesh .no-vertex-hangs
 
 -- 23 is never given without cause: there is a base vertex that hangs on a base record.
-pub vertex-hangs : (s : List ℕ) → checkNumber s ≡ 23 → Tables.SomeVertexHangs (tablesOf s)
+pub vertex-hangs : (s : Stored) → checkNumber s ≡ 23 → Tables.SomeVertexHangs (tablesOf s)
 vertex-hangs s = Check.vertex-hangs s
 
 -- ---- over base meshes
 
-pub stored-no-vertex-hangs : (s : List ℕ) (x : StoredMesh s) → NoVertexHangs (x .base)
+pub stored-no-vertex-hangs : (s : Stored) (x : StoredMesh s) → NoVertexHangs (x .base)
 stored-no-vertex-hangs s x = x .right .marked .no-vertex-hangs
 
 -- Build gives 23 only where a vertex hangs on a piece, as they are listed: the exchange of corners is not seen.
@@ -139,11 +141,11 @@ apart = buildBytes 7 (twoPieces (pos 64) (negsuc 31) (pos 0)) twoCorners 134
 abbrev moved : List ℕ
 moved = sets apart 62 (0 ∷ 0 ∷ [])
 
-pub moved-refused : checkNumber moved ≡ 23
+pub moved-refused : checkNumber (stored1 moved) ≡ 23
 unfolding build-computed refine-computed checkNumber
 moved-refused = refl
 
-pub before-9 : checkNumber (sets moved 115 (5 ∷ 0 ∷ [])) ≡ 23
+pub before-9 : checkNumber (stored1 (sets moved 115 (5 ∷ 0 ∷ []))) ≡ 23
 unfolding build-computed refine-computed checkNumber
 before-9 = refl
 
@@ -153,7 +155,7 @@ moved-small = refl
 
 -- So whoever meets demand 2 refuses it. "We accepted a base mesh with a vertex in the middle of a neighbour's edge, because document 01 looks at parent pairs only": such services
 -- don't meet it any more.
-pub accepts-a-hanging-vertex : (S : Services) → MeetsDemand2 S → S .check moved .number ≡ 0 → ⊥
+pub accepts-a-hanging-vertex : (S : Services) → MeetsDemand2 S → S .check (stored1 moved) .number ≡ 0 → ⊥
 accepts-a-hanging-vertex S m e =
-    let ours = demand-2 .accepted-exactly moved .1 (m .accepted-exactly moved .0 (small-bytes moved moved-small, e)) .1 in
-    omega (arith, sym (report-number moved) ∙ ours, moved-refused)
+    let ours = demand-2 .accepted-exactly (stored1 moved) .1 (m .accepted-exactly (stored1 moved) .0 ((small-bytes moved moved-small, bytes-none), e)) .1 in
+    omega (arith, sym (report-number (stored1 moved)) ∙ ours, moved-refused)

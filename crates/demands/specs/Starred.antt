@@ -12,6 +12,7 @@ use Rattle.piece.specs.Shape.{Shape, Valid, shapeOf, typeP, typeA, typeO, typeM
 use Rattle.piece_cut.specs.Cut.{childShape, cutOf}
 use Rattle.piece_cut.specs.Theorems.{End, unset-P-gives-set-P, set-P-gives-A, others-give-unset-P}
 use Rattle.grid.specs.Places.{pointOf}
+use Rattle.stored.specs.Layout.{stored1, StoredSelection, selection1}
 use Rattle.mesh_tables.specs.Tables.{Tables, tablesOf, pieceAt, isCut, refinementEnds, sixfoldAt}
 use Rattle.check_refusals.specs.Check.{leaves}
 use Rattle.build_service.specs.Build.{buildNumber, buildBytes}
@@ -26,35 +27,35 @@ abbrev built : List ℕ
 built = buildBytes 7 K-coordinates K-corners 77
 
 abbrev builtPiece : Piece
-builtPiece = pieceAt (tablesOf built) 0
+builtPiece = pieceAt (tablesOf (stored1 built)) 0
 
 -- "K, select 0", and the mesh that refine writes.
-abbrev select-0 : List ℕ
-select-0 = selecting 7 0 1 (0 ∷ [])
+abbrev select-0 : StoredSelection
+select-0 = selection1 (selecting 7 0 1 (0 ∷ []))
 
 abbrev halved : Tables
-halved = tablesOf (refineBytes K select-0 121)
+halved = tablesOf (stored1 (refineBytes (stored1 K) select-0 121))
 
 -- "Then select 1 and 2"
-abbrev select-1-2 : List ℕ
-select-1-2 = selecting 7 1 2 (1 ∷ 2 ∷ [])
+abbrev select-1-2 : StoredSelection
+select-1-2 = selection1 (selecting 7 1 2 (1 ∷ 2 ∷ []))
 
 abbrev quartered : Tables
-quartered = tablesOf (refineBytes K-cut select-1-2 209)
+quartered = tablesOf (stored1 (refineBytes (stored1 K-cut) select-1-2 209))
 
 -- "From there select 4 alone"
-abbrev select-4 : List ℕ
-select-4 = selecting 7 2 1 (4 ∷ [])
+abbrev select-4 : StoredSelection
+select-4 = selection1 (selecting 7 2 1 (4 ∷ []))
 
 abbrev withFour : Tables
-withFour = tablesOf (refineBytes K-four select-4 287)
+withFour = tablesOf (stored1 (refineBytes (stored1 K-four) select-4 287))
 
 -- "Select 3 to 6 instead"
-abbrev select-3-to-6 : List ℕ
-select-3-to-6 = selecting 7 2 4 (3 ∷ 4 ∷ 5 ∷ 6 ∷ [])
+abbrev select-3-to-6 : StoredSelection
+select-3-to-6 = selection1 (selecting 7 2 4 (3 ∷ 4 ∷ 5 ∷ 6 ∷ []))
 
 abbrev withAll : Tables
-withAll = tablesOf (refineBytes K-four select-3-to-6 375)
+withAll = tablesOf (stored1 (refineBytes (stored1 K-four) select-3-to-6 375))
 
 -- "With refinement edge 0 and marks of faces (1, 0)": face 1 is acd and face 0 is bcd; faces 2 and 3 contain the refinement edge.
 abbrev withMarks : ℕ → ℕ → ℕ → Piece
@@ -80,7 +81,7 @@ pub record StarredRows : Type 0 where
   pub build-length : length K ≡ 77
   -- "K, select 0: vertex 4 is (32,32,32) with parents 0, 3. Record 1: corners 0 1 2 4, edge 1, marks 3, 1, 0, 1. Record 2: 4 1 2 3, edge 4,
   -- marks 4, 5, 4, 3. Sixfold 131,072 each. 121 bytes; an output buffer of 120 gets 20."
-  pub halved-accepted : refineNumber K select-0 121 ≡ 0
+  pub halved-accepted : refineNumber (stored1 K) select-0 121 ≡ 0
   pub halved-place : pointOf (halved .vertexAt 4 .place) ≡ record { x = pos 32; y = pos 32; z = pos 32 }
   pub halved-parent-p : halved .vertexAt 4 .p ≡ 0
   pub halved-parent-q : halved .vertexAt 4 .q ≡ 3
@@ -92,26 +93,26 @@ pub record StarredRows : Type 0 where
   pub halved-marks-2 : pieceAt halved 2 .marks ≡ 4 ∷ 5 ∷ 4 ∷ 3 ∷ []
   pub halved-sixfold-1 : sixfoldAt (halved .vertexAt) (pieceAt halved 1) ≡ 131072
   pub halved-sixfold-2 : sixfoldAt (halved .vertexAt) (pieceAt halved 2) ≡ 131072
-  pub halved-bytes : refineBytes K select-0 121 ≡ K-cut
+  pub halved-bytes : refineBytes (stored1 K) select-0 121 ≡ K-cut
   pub halved-length : length K-cut ≡ 121
-  pub halved-short : refineNumber K select-0 120 ≡ 20
+  pub halved-short : refineNumber (stored1 K) select-0 120 ≡ 20
   -- "Then select 1 and 2: records 3 to 6, cut next at 0-1, 1-2, 1-2, 2-3."
-  pub quartered-accepted : refineNumber K-cut select-1-2 209 ≡ 0
+  pub quartered-accepted : refineNumber (stored1 K-cut) select-1-2 209 ≡ 0
   pub quartered-records : quartered .header .records ≡ 7
   pub quartered-next-3 : refinementEnds (pieceAt quartered 3) ≡ record { lower = 0; higher = 1 }
   pub quartered-next-4 : refinementEnds (pieceAt quartered 4) ≡ record { lower = 1; higher = 2 }
   pub quartered-next-5 : refinementEnds (pieceAt quartered 5) ≡ record { lower = 1; higher = 2 }
   pub quartered-next-6 : refinementEnds (pieceAt quartered 6) ≡ record { lower = 2; higher = 3 }
-  pub quartered-bytes : refineBytes K-cut select-1-2 209 ≡ K-four
+  pub quartered-bytes : refineBytes (stored1 K-cut) select-1-2 209 ≡ K-four
   -- "From there select 4 alone: 5 is cut too. 8 vertices, 11 records, 6 leaves."
-  pub with-four-accepted : refineNumber K-four select-4 287 ≡ 0
+  pub with-four-accepted : refineNumber (stored1 K-four) select-4 287 ≡ 0
   pub with-four-cut : isCut withFour 4 ≡ true
   pub with-four-cut-too : isCut withFour 5 ≡ true
   pub with-four-vertices : withFour .header .vertices ≡ 8
   pub with-four-records : withFour .header .records ≡ 11
   pub with-four-leaves : leaves withFour ≡ 6
   -- "Select 3 to 6 instead: 10 vertices, 15 records, 8 leaves of sixfold 32,768."
-  pub with-all-accepted : refineNumber K-four select-3-to-6 375 ≡ 0
+  pub with-all-accepted : refineNumber (stored1 K-four) select-3-to-6 375 ≡ 0
   pub with-all-vertices : withAll .header .vertices ≡ 10
   pub with-all-records : withAll .header .records ≡ 15
   pub with-all-leaves : leaves withAll ≡ 8
@@ -133,11 +134,11 @@ pub record StarredRows : Type 0 where
   pub every-set-P-gives : (s : Shape) → Valid s → (k : ℕ) → End s k → setP s ≡ true → (typeA (childShape s k) ≡ true) × (childShape s k .flag ≡ 0)
   pub every-A-O-M-gives : (s : Shape) → Valid s → (k : ℕ) → End s k → (typeA s || (typeO s || typeM s)) ≡ true → (typeP (childShape s k) ≡ true) × (childShape s k .flag ≡ 0)
   -- "Empty selection on K: round 1, all else equal."
-  pub empty-accepted : refineNumber K (selecting 7 0 0 []) 77 ≡ 0
-  pub empty-bytes : refineBytes K (selecting 7 0 0 []) 77 ≡ K-of 1
+  pub empty-accepted : refineNumber (stored1 K) (selection1 (selecting 7 0 0 [])) 77 ≡ 0
+  pub empty-bytes : refineBytes (stored1 K) (selection1 (selecting 7 0 0 [])) 77 ≡ K-of 1
   -- "Selection of round 0 on a mesh of round 1: 14. With the job wrong too: 13."
-  pub expired : refineNumber K-cut select-0 121 ≡ 14
-  pub of-another-job : refineNumber K-cut (selecting 8 0 1 (0 ∷ [])) 121 ≡ 13
+  pub expired : refineNumber (stored1 K-cut) select-0 121 ≡ 14
+  pub of-another-job : refineNumber (stored1 K-cut) (selection1 (selecting 8 0 1 (0 ∷ []))) 121 ≡ 13
 
 -- The table holds.
 pub starred : StarredRows

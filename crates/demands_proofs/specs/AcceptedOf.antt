@@ -2,11 +2,11 @@
 -- Assumes nothing.
 use mathlib.Core.Path.{sym, ap, subst}
 use mathlib.Core.Bool.{false, not}
-use mathlib.Core.List.{List}
 use Prim.Native.Nat.{ℕ, _≤_, _<_}
 use native.Mathlib.Omega.{arith}
-use Rattle.stored.specs.Fitting.{U16, U32, MaterialFits}
-use Rattle.stored.specs.Layout.{none, limits, meshBytes}
+use Rattle.stored.specs.Fitting.{U16, U32, MaterialFits, stored-none-small}
+use Rattle.stored.specs.declared.Kind.{Kind}
+use Rattle.stored.specs.Layout.{none, RightKind, Stored, storedAs}
 use Rattle.stored.specs.Meshes.{mesh-right-length, mesh-right-mark}
 use Rattle.mesh_tables.specs.Tables.{Tables, tablesOf}
 use Rattle.check_refusals.specs.Refusals.{wrongLength, wrongMark}
@@ -35,28 +35,30 @@ held-right t b C N h marked shallow nv nr few =
       cuts = held-cuts t b C N h marked shallow nv nr few;
     }
 
-module _ (job round : ℕ) (b : BaseMesh) (C : Cuts (b .pieces)) (right : RightSet b C) (N : Numbering) (nv : VerticesNumbered b C N) (nr : RecordsNumbered b C N) (job-fits : U32 job) (round-fits : U16 round) (materials : (r : ℕ) → r < b .pieces → MaterialFits false (b .materialAt r)) where
+module _ (k : Kind) (k-right : RightKind k) (job round : ℕ) (b : BaseMesh) (C : Cuts (b .pieces)) (right : RightSet (k .limits) b C) (N : Numbering) (nv : VerticesNumbered b C N) (nr : RecordsNumbered b C N) (job-fits : U32 job) (round-fits : U16 round) (materials : (r : ℕ) → r < b .pieces → MaterialFits (k .format .material) (b .materialAt r)) where
   -- The bytes of a numbered set of cuts are accepted.
-  pub written-accepted : Accepted (meshBytes (written job round b N))
-  unfolding wrongLength wrongMark
+  pub written-accepted : Accepted (storedAs k k-right (written job round b N))
+  unfolding wrongLength wrongMark storedAs
   written-accepted =
       let m = written job round b N in
-      let s = meshBytes m in
-      let counted = written-counted job round b C right N nv nr job-fits round-fits in
-      let h = written-holds job round b C right N nv nr job-fits round-fits materials in
-      let few-vertices = vertices-within limits b C (right .fits) N nv in
-      let few-records = records-within limits b C (right .fits) N nr in
+      let s = storedAs k k-right m in
+      let counted = written-counted k k-right job round b C right N nv nr job-fits round-fits in
+      let h = written-holds k k-right job round b C right N nv nr job-fits round-fits materials in
+      let few-vertices = vertices-within (k .limits) b C (right .fits) N nv in
+      let few : N .records ≤ none = omega (arith, records-within (k .limits) b C (right .fits) N nr, k-right .records, stored-none-small (k .format)) in
+      let few-records = records-within (k .limits) b C (right .fits) N nr in
       record {
-        length = rule1-holds s .0 (ap not (mesh-right-length m counted));
-        mark = rule2-holds s .0 (ap not (mesh-right-mark m counted));
+        length = rule1-holds s .0 (ap not (mesh-right-length k k-right m counted));
+        mark = rule2-holds s .0 (ap not (mesh-right-mark k k-right m counted));
         limits = record { vertices = omega (arith, h .vertices); records = omega (arith, h .records) };
-        mesh = held-right (tablesOf s) b C N h (right .marked) (right .shallow) nv nr (omega arith);
-        none-hangs = held-rests (tablesOf s) b C N h (right .marked) (right .shallow) nv nr (omega arith) (right .none-hangs);
+        base-limit = omega (arith, h .base-records, right .fits .base-records);
+        mesh = held-right (tablesOf s) b C N h (right .marked) (right .shallow) nv nr few;
+        none-hangs = held-rests (tablesOf s) b C N h (right .marked) (right .shallow) nv nr few (right .none-hangs);
       }
 
 -- Whatever is a stored mesh, check accepts.
-pub accepted-of-stored : (s : List ℕ) → StoredMesh s → Accepted s
+pub accepted-of-stored : (s : Stored) → StoredMesh s → Accepted s
 accepted-of-stored s m =
     let x = m .stores in
     subst Accepted (sym (x .bytes))
-    (written-accepted (m .job) (m .round) (m .base) (m .cuts) (m .right) (x .numbers) (x .vertices-numbered) (x .records-numbered) (x .job-fits) (x .round-fits) (x .materials))
+    (written-accepted (s .kind) (s .right) (m .job) (m .round) (m .base) (m .cuts) (m .right) (x .numbers) (x .vertices-numbered) (x .records-numbered) (x .job-fits) (x .round-fits) (x .materials))

@@ -15,7 +15,8 @@ use Rattle.laws.specs.Lists.{four-of}
 use Rattle.piece.specs.declared.Piece as Declared
 use Rattle.piece.specs.Shape.{shapeOf, mark}
 use Rattle.piece.specs.Ends.{cornerAt}
-use Rattle.stored.specs.Layout.{none, limits, meshBytes}
+use Rattle.stored.specs.Layout.{none, limits, kind1, right1, stored1, storedAs}
+use Rattle.stored.specs.Meshes.{Counted, one-buffer}
 use Rattle.check_meaning.specs.Accepted.{RightMarks}
 use Rattle.check_meaning.specs.Bases.{valid-marks}
 use Rattle.build_marks.specs.Marking.{plainVertex, plainPiece, rightedPiece, markedPiece, plainRecord}
@@ -24,7 +25,7 @@ use Rattle.build_meaning.specs.Righted.{righted-four, righted-sixfold, righted-
 use Rattle.build_meaning.specs.Marks.{marked-valid}
 use Rattle.build_meaning.specs.Shared.{shared-face-one-mark}
 use Rattle.build_meaning.specs.Written.{Given, plain-material}
-use Rattle.build_meaning.specs.Accepts.{passed}
+use Rattle.build_meaning.specs.Accepts.{passed, build-fits}
 use Rattle.build_meaning.specs.Output.{accepted-bytes}
 use Rattle.cuts_names.specs.Names as Names
 use Rattle.cuts_names.specs.Pieces.{Node, Side, Piece, generation, pieceAt, piece-root}
@@ -55,6 +56,7 @@ module _ (b : BaseMesh) where
         made-listed = record { distinct = tt; made = λ x t. absurd (false≢true t); all = λ n t. absurd (false≢true t) };
         vertices = omega (arith, c .most-vertices);
         records = omega (arith, c .most-pieces);
+        base-records = c .most-pieces;
       }
 
   shallow : Shallow b (no-cuts (b .pieces))
@@ -184,9 +186,9 @@ module _ (coordinates : List ℤ) (corners : List ℕ) where
         records = list-same (b .pieces) (plainRecord coordinates corners) (recordOf b plainNumbers) (λ r l. record-same r) i;
       }
 
-  pub plain-stores : (job : ℕ) → U32 job → RightPieces b → Stores (plainBytes job coordinates corners) job 0 b (no-cuts (b .pieces))
+  pub plain-stores : (job : ℕ) → U32 job → RightPieces b → Counted kind1 (plainMesh job coordinates corners) → Stores (stored1 (plainBytes job coordinates corners)) job 0 b (no-cuts (b .pieces))
   unfolding plainBytes
-  plain-stores job small pieces =
+  plain-stores job small pieces counted =
       record {
         job-fits = small;
         round-fits = omega arith;
@@ -194,14 +196,14 @@ module _ (coordinates : List ℤ) (corners : List ℕ) where
         numbers = plainNumbers;
         vertices-numbered = vertices-numbered;
         records-numbered = records-numbered pieces;
-        bytes = ap meshBytes (mesh-same job);
+        bytes = sym (one-buffer kind1 right1 refl (plainMesh job coordinates corners) counted) ∙ ap (storedAs kind1 right1) (mesh-same job);
       }
 
 -- ---- what build accepts
 
 module _ (job : ℕ) (coordinates : List ℤ) (corners : List ℕ) (room : ℕ) (g : Given job coordinates corners) (accepted : buildNumber job coordinates corners room ≡ 0) where
-  pub build-stores : RightSet (builtBase coordinates corners) (no-cuts (builtBase coordinates corners .pieces))
-      × Stores (plainBytes job coordinates corners) job 0 (builtBase coordinates corners) (no-cuts (builtBase coordinates corners .pieces))
+  pub build-stores : RightSet limits (builtBase coordinates corners) (no-cuts (builtBase coordinates corners .pieces))
+      × Stores (stored1 (plainBytes job coordinates corners)) job 0 (builtBase coordinates corners) (no-cuts (builtBase coordinates corners .pieces))
   build-stores =
       let asked = build-exactly job coordinates corners room g .gives-0 .0 accepted in
       let t = built-turned coordinates corners in
@@ -210,7 +212,7 @@ module _ (job : ℕ) (coordinates : List ℤ) (corners : List ℕ) (room : ℕ) 
       let counts : CountsWithin b = record { some-vertices = asked .counts .some-vertices; most-vertices = asked .counts .most-vertices; some-pieces = asked .counts .some-pieces; most-pieces = asked .counts .most-pieces } in
       let places : RightPlaces b = record { on-grid = asked .places .on-grid; one-place = asked .places .one-place } in (
         record { marked = plain-marked coordinates corners pieces counts places (together-turned t (asked .together)) (used-turned t (asked .used)) (none-turned t (asked .no-vertex-hangs)); none-hangs = none-hangs b; fits = fits b counts; shallow = shallow b },
-        plain-stores coordinates corners job (g .fits-job) pieces,
+        plain-stores coordinates corners job (g .fits-job) pieces (build-fits job coordinates corners room g accepted .counts),
       )
 
   pub built : BuiltMesh job coordinates corners (buildBytes job coordinates corners room) room

@@ -12,7 +12,8 @@ use Rattle.piece.specs.Shape.{lastGeneration}
 use Rattle.laws.specs.Below.{any-where, any-is}
 use Rattle.stored.specs.declared.Header.{Header}
 use Rattle.stored.specs.declared.Record.{Record}
-use Rattle.stored.specs.Layout.{none, limits, namedIn}
+use Rattle.stored.specs.Layout.{none, Stored, StoredSelection, namedIn}
+use Rattle.stored.specs.Fitting.{stored-none-small}
 use Rattle.mesh_tables.specs.Tables as Check
 use Rattle.mesh_tables.specs.Tables.{tablesOf, allRecords, pieceAt, isCut}
 use Rattle.check_meaning.specs.Accepted.{Accepted}
@@ -38,7 +39,7 @@ use Rattle.demands_proofs.specs.PassStages as Stages
 use Rattle.demands_proofs.specs.PassStages.{Start, UpToLast, Selectable}
 use Rattle.demands_proofs.specs.Closing.{Outcome, outcome}
 
-module _ (s : List ℕ) (x : StoredMesh s) where
+module _ (s : Stored) (x : StoredMesh s) where
   abbrev pub m : Check.Tables
   m = tablesOf s
 
@@ -52,15 +53,15 @@ module _ (s : List ℕ) (x : StoredMesh s) where
   pub holds : Holds m (x .base) N
   holds =
       let y = x .stores in
-      subst (λ (t : List ℕ). Holds (tablesOf t) (x .base) N) (sym (y .bytes))
-      (written-holds (x .job) (x .round) (x .base) (x .cuts) (x .right) N (y .vertices-numbered) (y .records-numbered) (y .job-fits) (y .round-fits) (y .materials))
+      subst (λ (t : Stored). Holds (tablesOf t) (x .base) N) (sym (y .bytes))
+      (written-holds (s .kind) (s .right) (x .job) (x .round) (x .base) (x .cuts) (x .right) N (y .vertices-numbered) (y .records-numbered) (y .job-fits) (y .round-fits) (y .materials))
 
   -- Their header has the job and the round.
   heading : m .header ≡ headerFor (x .job) (x .round) (x .base) N
   heading =
       let y = x .stores in
-      ap (λ (t : List ℕ). tablesOf t .header) (y .bytes)
-      ∙ header-read (x .job) (x .round) (x .base) (x .cuts) (x .right) N (y .vertices-numbered) (y .records-numbered) (y .job-fits) (y .round-fits)
+      ap (λ (t : Stored). tablesOf t .header) (y .bytes)
+      ∙ header-read (s .kind) (s .right) (x .job) (x .round) (x .base) (x .cuts) (x .right) N (y .vertices-numbered) (y .records-numbered) (y .job-fits) (y .round-fits)
 
   pub stored-job : m .header .job ≡ x .job
   stored-job = ap (λ (h : Header). h .job) heading
@@ -72,7 +73,7 @@ module _ (s : List ℕ) (x : StoredMesh s) where
   lawful = accepted-lawful m (accepted .mesh) (stored-four s)
 
   pub few : N .records ≤ none
-  few = omega (arith, records-within limits (x .base) (x .cuts) (x .right .fits) N (x .stores .records-numbered))
+  few = omega (arith, records-within (s .kind .limits) (x .base) (x .cuts) (x .right .fits) N (x .stores .records-numbered), s .right .records, stored-none-small (s .kind .format))
 
   pub marks-four : (r : ℕ) → r < x .base .pieces → length (x .base .shapeAt r .marks) ≡ 4
   marks-four r h = x .right .marked .pieces r h .marked .four
@@ -90,7 +91,7 @@ module _ (s : List ℕ) (x : StoredMesh s) where
   pub up-to-last : UpToLast m
   up-to-last = accepted .mesh .cuts .generations
 
-  module _ (selection : List ℕ) (good : GoodSelection (x .job) (x .round) (x .base) (x .cuts) N selection) where
+  module _ (selection : StoredSelection) (good : GoodSelection (x .job) (x .round) (x .base) (x .cuts) N selection) where
     abbrev pub chosen : ℕ → Bool
     chosen = isNamed (countIn selection) (namedIn selection)
 
@@ -130,8 +131,8 @@ module _ (s : List ℕ) (x : StoredMesh s) where
     selected-chosen n (i, l, q) = (namedIn selection i, named-chosen i l, stored-node (namedIn selection i) (good .there i l) ∙ q)
 
     -- What the passes make of it.
-    pub made : Outcome limits m start chosen (refined limits chosen m)
-    made = outcome limits (omega arith) m start (stored-four s) (right-hands-down m (accepted .mesh)) up-to-last chosen selectable
+    pub made : Outcome (s .kind .limits) m start chosen (refined (s .kind .limits) chosen m)
+    made = outcome (s .kind .limits) (omega (arith, s .right .records, stored-none-small (s .kind .format))) m start (stored-four s) (right-hands-down m (accepted .mesh)) up-to-last chosen selectable
 
     -- The selection earns none of 11 to 18 from the mesh.
     pub earns-none : EarnsNone m selection
@@ -148,7 +149,7 @@ module _ (s : List ℕ) (x : StoredMesh s) where
         }
 
   -- And back: a selection that earns none of 11 to 18 is a good one.
-  pub good-selection : (selection : List ℕ) → EarnsNone m selection → GoodSelection (x .job) (x .round) (x .base) (x .cuts) N selection
+  pub good-selection : (selection : StoredSelection) → EarnsNone m selection → GoodSelection (x .job) (x .round) (x .base) (x .cuts) N selection
   good-selection selection e =
       record {
         length = e .length;

@@ -12,7 +12,8 @@ use Rattle.laws.specs.Below.{either, listBelow, list-same}
 use Rattle.laws.specs.Lists.{four-of}
 use Rattle.piece.specs.Shape.{mark}
 use Rattle.piece.specs.Ends.{cornerAt}
-use Rattle.stored.specs.Layout.{none, Mesh, meshBytes}
+use Rattle.stored.specs.declared.Kind.{Kind}
+use Rattle.stored.specs.Layout.{none, RightKind, Mesh, storedAs}
 use Rattle.mesh_tables.specs.Tables as Check
 use Rattle.mesh_tables.specs.Tables.{baseVertices, allVertices, baseRecords, allRecords, pieceAt}
 use Rattle.check_meaning.specs.Accepted.{parentP, parentQ}
@@ -108,21 +109,22 @@ module _ (m : Check.Tables) (b : BaseMesh) (N : Numbering) (holds : Holds m b N)
         records = list-same (N .records) (m .recordAt) (recordOf b N) (holds .recordAt) i;
       })
 
-  -- The bytes that refine writes of them are those of the numbering, for the job and the round of its header.
-  pub grown-written : (job round : ℕ) → resultOf m .header .job ≡ job → resultOf m .header .round ≡ round → meshBytes (resultOf m) ≡ meshBytes (written job round b N)
+  -- The mesh that refine writes of them is that of the numbering, for the job and the round of its header.
+  pub grown-written : (job round : ℕ) → resultOf m .header .job ≡ job → resultOf m .header .round ≡ round → resultOf m ≡ written job round b N
   unfolding resultOf
   grown-written job round is-job is-round =
-      (λ i. meshBytes (meshFor (is-job i) (is-round i) m)) ∙ ap meshBytes (holds-written job round)
+      (λ i. meshFor (is-job i) (is-round i) m) ∙ holds-written job round
 
 -- ---- the set that they store
 
 module _ (m : Check.Tables) (b : BaseMesh) (D : Cuts (b .pieces)) (g : Grown (named b) (link m) D) (base-vertices : baseVertices m ≡ b .vertices) where
   -- What refine writes of grown tables stores their set, for the job and the round of its header.
-  pub grown-stores : (job round : ℕ) → U32 job → U16 round → resultOf m .header .job ≡ job → resultOf m .header .round ≡ round →
+  pub grown-stores : (k : Kind) (k-right : RightKind k) (job round : ℕ) → U32 job → U16 round → resultOf m .header .job ≡ job → resultOf m .header .round ≡ round →
       ((v : ℕ) → v < b .vertices → (parentP m v ≡ none) × (parentQ m v ≡ none)) → ((n : ℕ) → n < allRecords m → Four (pieceAt m n)) →
-      Materials m b → ((r : ℕ) → r < b .pieces → MaterialFits false (b .materialAt r)) →
-      VerticesNumbered b D (numbersOf m) → Stores (meshBytes (resultOf m)) job round b D
-  grown-stores job round job-fits round-fits is-job is-round parents four materials fit vertices =
+      Materials m b → ((r : ℕ) → r < b .pieces → MaterialFits (k .format .material) (b .materialAt r)) →
+      VerticesNumbered b D (numbersOf m) → Stores (storedAs k k-right (resultOf m)) job round b D
+  unfolding storedAs
+  grown-stores k k-right job round job-fits round-fits is-job is-round parents four materials fit vertices =
       record {
         job-fits = job-fits;
         round-fits = round-fits;
@@ -130,5 +132,5 @@ module _ (m : Check.Tables) (b : BaseMesh) (D : Cuts (b .pieces)) (g : Grown (na
         numbers = numbersOf m;
         vertices-numbered = vertices;
         records-numbered = grown-records m b D g base-vertices;
-        bytes = grown-written m b (numbersOf m) (grown-holds m b D g base-vertices parents four materials) job round is-job is-round;
+        bytes = ap (storedAs k k-right) (grown-written m b (numbersOf m) (grown-holds m b D g base-vertices parents four materials) job round is-job is-round);
       }

@@ -4,7 +4,7 @@ use mathlib.Core.Bool.{false}
 use mathlib.Core.List.{List}
 use Prim.Native.Nat.{ℕ, suc, _*_, _≤_, _<_}
 use lib.ListN.{length}
-use Rattle.stored.specs.Layout.{limits}
+use Rattle.stored.specs.Layout.{Stored, StoredSelection}
 use Rattle.mesh_tables.specs.Tables as Check
 use Rattle.refine_pass.specs.Passes.{exceeds, refined}
 use Rattle.cuts_names.specs.Base.{SameFace, markedAt}
@@ -19,7 +19,7 @@ use Rattle.demands_proofs.specs.PassStages as Stages
 use Rattle.demands_proofs.specs.MarkedBase.{properly-marked}
 use Rattle.demands_proofs.specs.FromStored as From
 
-module _ (s : List ℕ) (x : StoredMesh s) (selection : List ℕ) (good : GoodSelection (x .job) (x .round) (x .base) (x .cuts) (x .stores .numbers) selection) where
+module _ (s : Stored) (x : StoredMesh s) (selection : StoredSelection) (good : GoodSelection (x .job) (x .round) (x .base) (x .cuts) (x .stores .numbers) selection) where
   abbrev b : BaseMesh
   b = x .base
 
@@ -31,7 +31,7 @@ module _ (s : List ℕ) (x : StoredMesh s) (selection : List ℕ) (good : GoodSe
 
   -- The tables after all passes, and the set that they represent.
   abbrev pub after : Check.Tables
-  after = refined limits (From.chosen s x selection good) (From.m s x)
+  after = refined (s .kind .limits) (From.chosen s x selection good) (From.m s x)
 
   abbrev pub set : Cuts (b .pieces)
   set = From.made s x selection good .set
@@ -55,7 +55,7 @@ module _ (s : List ℕ) (x : StoredMesh s) (selection : List ℕ) (good : GoodSe
       reached-depth (named b) chosen (From.made s x selection good .reached) (properly-marked b (x .right .marked)) k most below old (λ n c. new n (From.chosen-selected s x selection good n c))
 
   -- Where the tables do not exceed their limits, the set closes.
-  module _ (within : exceeds limits (after .header) ≡ false) (cuts : List Node) (listed : CutList set cuts) where
+  module _ (within : exceeds (s .kind .limits) (after .header) ≡ false) (cuts : List Node) (listed : CutList set cuts) where
     pub set-closes : Closes b (x .cuts) selected set
     set-closes =
         record {

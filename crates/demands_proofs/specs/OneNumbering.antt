@@ -6,6 +6,7 @@ use native.Mathlib.Omega.{arith}
 use borrow.Author.Tests.{le-ltb}
 use Rattle.stored.specs.declared.Vertex.{Vertex}
 use Rattle.stored.specs.declared.Record.{Record}
+use Rattle.stored.specs.Layout.{Stored}
 use Rattle.mesh_tables.specs.Tables.{tablesOf}
 use Rattle.cuts.specs.Tables.{nameOf}
 use Rattle.demands_words.specs.Words.{vertexOf, recordOf, StoredMesh, SameNumbering}
@@ -22,12 +23,12 @@ each-slot f g e (suc (suc (suc zero))) l = cc
 each-slot f g e (suc (suc (suc (suc k)))) l = absurd (omega arith)
 
 -- A vertex's name is the one that the tables give it.
-stored-name : (s : List ℕ) (x : StoredMesh s) (v : ℕ) → v < x .stores .numbers .vertices → nameOf (link (tablesOf s)) v ≡ x .stores .numbers .nameAt v
+stored-name : (s : Stored) (x : StoredMesh s) (v : ℕ) → v < x .stores .numbers .vertices → nameOf (link (tablesOf s)) v ≡ x .stores .numbers .nameAt v
 stored-name s x =
     let y = x .stores in
     name-is (tablesOf s) (x .base) (x .cuts) (y .numbers) (From.holds s x) (y .vertices-numbered) (y .records-numbered) (From.marks-four s x) (From.few s x) (From.lawful s x)
 
-module _ (s : List ℕ) (x x′ : StoredMesh s) where
+module _ (s : Stored) (x x′ : StoredMesh s) where
   pub stored-one-job : x .job ≡ x′ .job
   stored-one-job = sym (From.stored-job s x) ∙ From.stored-job s x′
 

@@ -13,7 +13,8 @@ use borrow.Author.Tests.{eqb-true, eqb-false, ne-eqb, lt-ltb, le-ltb, ltb-false,
 use Rattle.laws.specs.Below.{either, list-length}
 use Rattle.laws.specs.Order.{OneOf, one-of-them, brokenAt, none-broken}
 use Rattle.laws.specs.Lists.{zeroPast, Bytes, joined, joined-length}
-use Rattle.stored.specs.Layout.{vertexWidth, recordWidth, limits, meshLength, headerOf, headerBytes, vertexBytes, recordBytes, Mesh, meshBytes}
+use Rattle.stored.specs.declared.Format.{Format}
+use Rattle.stored.specs.Layout.{version1, vertexWidth, recordWidth, limits, meshLength, baseLength, grownLength, headerFrom, headerBytes, vertexBytes, recordBytes, Mesh, laidOut, meshBytes, Stored, stored1, headerOf, StoredSelection}
 use Rattle.stored.specs.Fitting.{HeaderFits, header-fits, round-fits}
 use Rattle.stored.specs.Entries.{header-wide, vertex-wide, record-wide, header-again}
 use Rattle.check_refusals.specs.declared.Report.{Report}
@@ -44,7 +45,7 @@ zero-or-not n = ⊎-elim (λ t. inl (eqb-true n 0 t)) (λ f. inr (eqb-false n 0 
 
 -- ---- check
 
-module _ (s : List ℕ) where
+module _ (s : Stored) where
   pub check-number : OneOf (0 ∷ checkNumbers) (checkOf s .number)
   unfolding checkNumber rows tableRows
   check-number = subst (OneOf (0 ∷ checkNumbers)) (sym (report-number s)) (one-of-them (rows s))
@@ -67,34 +68,34 @@ module _ (s : List ℕ) where
       go true = (refl, refl)
       go false = (refl, refl)
 
-  pub accepted-length : checkOf s .number ≡ 0 → length s ≡ meshLength (headerOf s .vertices) (headerOf s .records)
-  unfolding tablesOf
-  accepted-length e = accepts-exactly s .0 (sym (report-number s) ∙ e) .length .exact
+  pub accepted-length : checkOf s .number ≡ 0 → (length (s .base) ≡ baseLength (s .kind) (headerOf s)) × (length (s .grown) ≡ grownLength (s .kind) (headerOf s))
+  accepted-length e = let long = accepts-exactly s .0 (sym (report-number s) ∙ e) .length in (long .exact, long .exact-grown)
 
--- ---- a mesh's bytes
+-- ---- a mesh's bytes in one buffer
 
--- They are as many as its header says, where its tables have as many entries as it says.
-pub mesh-as-long : (m : Mesh) → length (m .vertices) ≡ m .header .vertices → length (m .records) ≡ m .header .records →
-    length (meshBytes m) ≡ meshLength (m .header .vertices) (m .header .records)
-unfolding meshBytes
-mesh-as-long m v r =
-    rw (
-      length-append (headerBytes (m .header) ++ joined vertexBytes (m .vertices)) (joined recordBytes (m .records)),
-      length-append (headerBytes (m .header)) (joined vertexBytes (m .vertices)),
-      header-wide (m .header),
-      joined-length vertexBytes vertexWidth vertex-wide (m .vertices),
-      joined-length recordBytes recordWidth record-wide (m .records),
-    )
-    (ap₂ meshLength v r)
+module _ (f : Format) (m : Mesh) where
+  -- They are as many as its header says, where its tables have as many entries as it says.
+  pub mesh-as-long : length (m .vertices) ≡ m .header .vertices → length (m .records) ≡ m .header .records →
+      length (meshBytes f m) ≡ meshLength f (m .header .vertices) (m .header .records)
+  unfolding laidOut
+  mesh-as-long v r =
+      rw (
+        length-append (headerBytes f (m .header) ++ joined (vertexBytes f) (m .vertices)) (joined (recordBytes f) (m .records)),
+        length-append (headerBytes f (m .header)) (joined (vertexBytes f) (m .vertices)),
+        header-wide f (m .header),
+        joined-length (vertexBytes f) (vertexWidth f) (vertex-wide f) (m .vertices),
+        joined-length (recordBytes f) (recordWidth f) (record-wide f) (m .records),
+      )
+      (ap₂ (meshLength f) v r)
 
--- Its header is read again, whatever stands past the mesh.
-pub header-first : (m : Mesh) → HeaderFits (m .header) → (rest : List ℕ) → headerOf (meshBytes m ++ rest) ≡ m .header
-unfolding meshBytes
-header-first m f rest =
-    let v = joined vertexBytes (m .vertices) in
-    let r = joined recordBytes (m .records) in
-    ap headerOf (append-assoc (headerBytes (m .header) ++ v) r rest ∙ append-assoc (headerBytes (m .header)) v (r ++ rest))
-    ∙ header-again (m .header) f (v ++ (r ++ rest))
+  -- Its header is read again, whatever stands past the mesh.
+  pub header-first : HeaderFits f (m .header) → (rest : List ℕ) → headerFrom f (meshBytes f m ++ rest) ≡ m .header
+  unfolding laidOut
+  header-first u rest =
+      let v = joined (vertexBytes f) (m .vertices) in
+      let r = joined (recordBytes f) (m .records) in
+      ap (headerFrom f) (append-assoc (headerBytes f (m .header) ++ v) r rest ∙ append-assoc (headerBytes f (m .header)) v (r ++ rest))
+      ∙ header-again f (m .header) (v ++ (r ++ rest)) u
 
 -- ---- build
 
@@ -107,8 +108,8 @@ module _ (job : ℕ) (coordinates : List ℤ) (corners : List ℕ) where
   unfolding plainMesh plainHeader
   built-records = list-length (plainRecord coordinates corners) _
 
-  pub built-as-long : length (meshBytes (plainMesh job coordinates corners)) ≡ meshLength (plainMesh job coordinates corners .header .vertices) (plainMesh job coordinates corners .header .records)
-  built-as-long = mesh-as-long (plainMesh job coordinates corners) built-vertices built-records
+  pub built-as-long : length (meshBytes version1 (plainMesh job coordinates corners)) ≡ meshLength version1 (plainMesh job coordinates corners .header .vertices) (plainMesh job coordinates corners .header .records)
+  built-as-long = mesh-as-long version1 (plainMesh job coordinates corners) built-vertices built-records
 
 module _ (job : ℕ) (coordinates : List ℤ) (corners : List ℕ) (room : ℕ) where
   pub build-number : OneOf (0 ∷ 21 ∷ 3 ∷ 4 ∷ 5 ∷ 7 ∷ 8 ∷ 23 ∷ 20 ∷ []) (buildNumber job coordinates corners room)
@@ -116,29 +117,29 @@ module _ (job : ℕ) (coordinates : List ℤ) (corners : List ℕ) (room : ℕ) 
   build-number = one-of-them (buildRows job coordinates corners room)
 
   module _ (e : buildNumber job coordinates corners room ≡ 0) where
-    pub built-few : Bounded (plainMesh job coordinates corners .header)
+    pub built-few : Bounded limits (plainMesh job coordinates corners .header)
     unfolding plainMesh
-    built-few = bounded (plainHeader job coordinates corners) (passed job coordinates corners room e .counts)
+    built-few = bounded limits (plainHeader job coordinates corners) (passed job coordinates corners room e .counts)
 
-    pub built-within : length (meshBytes (plainMesh job coordinates corners)) ≤ room
+    pub built-within : length (meshBytes version1 (plainMesh job coordinates corners)) ≤ room
     unfolding plainBytes
     built-within = passed job coordinates corners room e .fits
 
-    pub built-bytes : buildBytes job coordinates corners room ≡ zeroPast room (meshBytes (plainMesh job coordinates corners))
+    pub built-bytes : buildBytes job coordinates corners room ≡ zeroPast room (meshBytes version1 (plainMesh job coordinates corners))
     unfolding plainBytes
     built-bytes = Build.accepted-bytes job coordinates corners room e
 
     module _ (g : Given job coordinates corners) where
-      pub built-header : headerOf (buildBytes job coordinates corners room) ≡ plainMesh job coordinates corners .header
-      built-header = ap headerOf built-bytes ∙ header-first (plainMesh job coordinates corners) (build-fits job coordinates corners room g e .counts .header) _
+      pub built-header : headerFrom version1 (buildBytes job coordinates corners room) ≡ plainMesh job coordinates corners .header
+      built-header = ap (headerFrom version1) built-bytes ∙ header-first version1 (plainMesh job coordinates corners) (build-fits job coordinates corners room g e .counts .header) _
 
-      pub built-checked : checkNumber (meshBytes (plainMesh job coordinates corners)) ≡ 0
+      pub built-checked : checkNumber (stored1 (meshBytes version1 (plainMesh job coordinates corners))) ≡ 0
       unfolding plainBytes
       built-checked = check-accepts job coordinates corners room g e
 
 -- ---- refine
 
-module _ (mesh selection : List ℕ) where
+module _ (mesh : Stored) (selection : StoredSelection) where
   pub refined-vertices : length (resultOf (closed mesh selection) .vertices) ≡ resultOf (closed mesh selection) .header .vertices
   unfolding resultOf
   refined-vertices = list-length (closed mesh selection .vertexAt) _
@@ -147,15 +148,15 @@ module _ (mesh selection : List ℕ) where
   unfolding resultOf
   refined-records = list-length (closed mesh selection .recordAt) _
 
-  pub refined-as-long : length (meshBytes (resultOf (closed mesh selection))) ≡ meshLength (resultOf (closed mesh selection) .header .vertices) (resultOf (closed mesh selection) .header .records)
-  refined-as-long = mesh-as-long (resultOf (closed mesh selection)) refined-vertices refined-records
+  pub refined-as-long : length (meshBytes (mesh .kind .format) (resultOf (closed mesh selection))) ≡ meshLength (mesh .kind .format) (resultOf (closed mesh selection) .header .vertices) (resultOf (closed mesh selection) .header .records)
+  refined-as-long = mesh-as-long (mesh .kind .format) (resultOf (closed mesh selection)) refined-vertices refined-records
 
 -- In the words of the closed tables.
-pub closed-as-long : (mesh selection : List ℕ) → length (meshBytes (resultOf (closed mesh selection))) ≡ meshLength (closed mesh selection .header .vertices) (closed mesh selection .header .records)
+pub closed-as-long : (mesh : Stored) (selection : StoredSelection) → length (meshBytes (mesh .kind .format) (resultOf (closed mesh selection))) ≡ meshLength (mesh .kind .format) (closed mesh selection .header .vertices) (closed mesh selection .header .records)
 unfolding resultOf
 closed-as-long = refined-as-long
 
-module _ (mesh selection : List ℕ) (room : ℕ) where
+module _ (mesh : Stored) (selection : StoredSelection) (room : ℕ) where
   abbrev number : ℕ
   number = refineNumber mesh selection room
 
@@ -172,36 +173,36 @@ module _ (mesh selection : List ℕ) (room : ℕ) where
 
   module _ (e : refineNumber mesh selection room ≡ 0) where
     -- The result is neither too large for the tables nor for the buffer.
-    stored : (n : ℕ) → brokenAt (resultRows (closed mesh selection .header) room) n ≡ false
+    stored : (n : ℕ) → brokenAt (resultRows (mesh .kind) (closed mesh selection .header) room) n ≡ false
     unfolding laterNumber storedNumber resultRows
-    stored = none-broken (resultRows (closed mesh selection .header) room) refl (refine-none mesh selection room .0 e .1 .1)
+    stored = none-broken (resultRows (mesh .kind) (closed mesh selection .header) room) refl (refine-none mesh selection room .0 e .1 .1)
 
-    pub refined-few : (resultOf (closed mesh selection) .header .vertices ≤ limits .vertices) × (resultOf (closed mesh selection) .header .records ≤ limits .records)
+    pub refined-few : (resultOf (closed mesh selection) .header .vertices ≤ mesh .kind .limits .vertices) × (resultOf (closed mesh selection) .header .records ≤ mesh .kind .limits .records)
     unfolding resultOf resultRows
-    refined-few = within limits (closed mesh selection .header) (stored 19)
+    refined-few = within (mesh .kind .limits) (closed mesh selection .header) (stored 19)
 
-    pub refined-within : length (meshBytes (resultOf (closed mesh selection))) ≤ room
+    pub refined-within : length (meshBytes (mesh .kind .format) (resultOf (closed mesh selection))) ≤ room
     unfolding resultOf resultRows
     refined-within =
         let h = closed mesh selection .header in
-        omega (arith, refined-as-long mesh selection, ltb-false room (meshLength (h .vertices) (h .records)) (stored 20))
+        omega (arith, refined-as-long mesh selection, ltb-false room (meshLength (mesh .kind .format) (h .vertices) (h .records)) (stored 20))
 
-    pub refined-header : Bytes mesh → headerOf (refineBytes mesh selection room) ≡ resultOf (closed mesh selection) .header
+    pub refined-header : Bytes (mesh .base) → headerFrom (mesh .kind .format) (refineBytes mesh selection room) ≡ resultOf (closed mesh selection) .header
     unfolding resultOf
-    refined-header b = ap headerOf (Refine.accepted-bytes mesh selection room e) ∙ header-first result fits _
+    refined-header b = ap (headerFrom (mesh .kind .format)) (Refine.accepted-bytes mesh selection room e) ∙ header-first (mesh .kind .format) result fits _
       where
-        given : HeaderFits (headerOf mesh)
-        given = header-fits mesh b
+        given : HeaderFits (mesh .kind .format) (headerOf mesh)
+        given = header-fits (mesh .base) b (mesh .kind .format)
 
-        fits : HeaderFits (result .header)
+        fits : HeaderFits (mesh .kind .format) (result .header)
         fits =
             record {
               job = omega (arith, job-kept mesh selection, given .job);
               round = round-fits (closed mesh selection .header .round);
               baseVertices = omega (arith, base-vertices-kept mesh selection, given .baseVertices);
-              vertices = omega (arith, refined-few .0);
+              vertices = omega (arith, refined-few .0, mesh .right .vertices);
               baseRecords = omega (arith, base-records-kept mesh selection, given .baseRecords);
-              records = omega (arith, refined-few .1);
+              records = omega (arith, refined-few .1, mesh .right .records);
             }
 
   pub refine-length : length (refineBytes mesh selection room) ≡ room
@@ -250,26 +251,26 @@ mesh-ended m r = ((figures (countFigures (m .header) ++ checkFigures r), refl), 
 
 all-ended : (s : List ℕ) → AllEnded (linesOf s)
 unfolding linesOf judgedLines
-all-ended s = go (ltb (meshLength (limits .vertices) (limits .records)) (length s)) (eqb (checkOf s .number) 0)
+all-ended s = go (ltb (meshLength version1 (limits .vertices) (limits .records)) (length s)) (eqb (checkOf (stored1 s) .number) 0)
   where
-    go : (a b : Bool) → AllEnded (cond a (refusedLine 1 ∷ []) (cond b (meshLines (tablesOf s) (checkOf s)) (refusedLine (checkOf s .number) ∷ [])))
+    go : (a b : Bool) → AllEnded (cond a (refusedLine 1 ∷ []) (cond b (meshLines (tablesOf (stored1 s)) (checkOf (stored1 s))) (refusedLine (checkOf (stored1 s) .number) ∷ [])))
     go true b = refused-ended 1
-    go false true = mesh-ended (tablesOf s) (checkOf s)
-    go false false = refused-ended (checkOf s .number)
+    go false true = mesh-ended (tablesOf (stored1 s)) (checkOf (stored1 s))
+    go false false = refused-ended (checkOf (stored1 s) .number)
 
 module _ (s : List ℕ) where
   pub line-ends : (k : ℕ) → k < length (linesOf s) → (text : List ℕ) × (getD (linesOf s) k [] ≡ text ++ 10 ∷ [])
   line-ends = ended-at (linesOf s) (all-ended s)
 
   -- What is longer than the largest mesh is refused with 1, and what check refuses with its number.
-  pub too-long-line : meshLength (limits .vertices) (limits .records) < length s → linesOf s ≡ refusedLine 1 ∷ []
+  pub too-long-line : meshLength version1 (limits .vertices) (limits .records) < length s → linesOf s ≡ refusedLine 1 ∷ []
   unfolding linesOf
-  too-long-line l = rw (lt-ltb (meshLength (limits .vertices) (limits .records)) (length s) l)
+  too-long-line l = rw (lt-ltb (meshLength version1 (limits .vertices) (limits .records)) (length s) l)
 
-  pub accepted-lines : length s ≤ meshLength (limits .vertices) (limits .records) → checkOf s .number ≡ 0 → linesOf s ≡ meshLines (tablesOf s) (checkOf s)
+  pub accepted-lines : length s ≤ meshLength version1 (limits .vertices) (limits .records) → checkOf (stored1 s) .number ≡ 0 → linesOf s ≡ meshLines (tablesOf (stored1 s)) (checkOf (stored1 s))
   unfolding linesOf judgedLines
-  accepted-lines l e = rw (le-ltb (meshLength (limits .vertices) (limits .records)) (length s) l, eq-eqb (checkOf s .number) 0 e)
+  accepted-lines l e = rw (le-ltb (meshLength version1 (limits .vertices) (limits .records)) (length s) l, eq-eqb (checkOf (stored1 s) .number) 0 e)
 
-  pub refused-line : length s ≤ meshLength (limits .vertices) (limits .records) → checkOf s .number ≢ 0 → linesOf s ≡ refusedLine (checkOf s .number) ∷ []
+  pub refused-line : length s ≤ meshLength version1 (limits .vertices) (limits .records) → checkOf (stored1 s) .number ≢ 0 → linesOf s ≡ refusedLine (checkOf (stored1 s) .number) ∷ []
   unfolding linesOf judgedLines
-  refused-line l n = rw (le-ltb (meshLength (limits .vertices) (limits .records)) (length s) l, ne-eqb (checkOf s .number) 0 n)
+  refused-line l n = rw (le-ltb (meshLength version1 (limits .vertices) (limits .records)) (length s) l, ne-eqb (checkOf (stored1 s) .number) 0 n)

@@ -55,13 +55,13 @@ module _ (coordinates : List ℤ) (corners : List ℕ) where
       (or-fails
       (or-fails
       (or-fails
-      (or-fails (not-below (limits .vertices) vertices) (not-below (limits .records) pieces))
+      (or-fails (or-fails (not-below (limits .vertices) vertices) (not-below (limits .records) pieces)) (not-below (limits .«base_records») pieces))
       (not-below vertices 4))
       (not-below pieces 1))
       (not-below vertices vertices))
       (not-below pieces pieces))
-      (λ h. record { some-vertices = h .0 .0 .0 .1; most-vertices = h .0 .0 .0 .0 .0; some-pieces = h .0 .0 .1; most-pieces = h .0 .0 .0 .0 .1 })
-      (λ c. (((((c .most-vertices, c .most-pieces), c .some-vertices), c .some-pieces), omega arith), omega arith))
+      (λ h. record { some-vertices = h .0 .0 .0 .1; most-vertices = h .0 .0 .0 .0 .0 .0; some-pieces = h .0 .0 .1; most-pieces = h .0 .0 .0 .0 .0 .1 })
+      (λ c. ((((((c .most-vertices, c .most-pieces), c .most-pieces), c .some-vertices), c .some-pieces), omega arith), omega arith))
 
 -- ---- what check reads
 

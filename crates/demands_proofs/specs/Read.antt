@@ -18,9 +18,10 @@ use Rattle.grid.specs.Places.{coordinate, pointOf, halfwayOf, shift}
 use Rattle.grid.specs.PlaceLaws.{Held}
 use Rattle.grid.specs.Corners.{Midpoint}
 use Rattle.grid.specs.GridTheorems.{halfway-exactly, halfway-only}
-use Rattle.stored.specs.Layout.{limits, meshBytes}
-use Rattle.stored.specs.Fitting.{OrNone, VertexFits, MaterialFits, RecordFits, Counted, MeshFits, U16, U32}
-use Rattle.stored.specs.Meshes.{mesh-header, mesh-vertex, mesh-record}
+use Rattle.stored.specs.declared.Kind.{Kind}
+use Rattle.stored.specs.Layout.{RightKind, storedAs}
+use Rattle.stored.specs.Fitting.{OrNone, VertexFits, MaterialFits, RecordFits, U16, U32}
+use Rattle.stored.specs.Meshes.{base-within, Counted, MeshFits, mesh-header, mesh-vertex, mesh-record}
 use Rattle.mesh_tables.specs.Tables.{tablesOf}
 use Rattle.check_meaning.specs.Tests.{equal, and-passes, or-passes}
 use Rattle.check_meaning.specs.Accepted.{OnGrid, RightMarks}
@@ -95,47 +96,48 @@ module _ (b : BaseMesh) (C : Cuts (b .pieces)) (N : Numbering) (marked : Properl
   pub record-valid : RecordsNumbered b C N → (r : ℕ) → r < N .records → Valid (pieceAt (named b) (N .nodeAt r) .shape)
   record-valid nr r h = node-valid (properly-marked b marked) (N .nodeAt r) (there-rooted C (N .nodeAt r) (nr .there r h))
 
-module _ (job round : ℕ) (b : BaseMesh) (C : Cuts (b .pieces)) (right : RightSet b C) (N : Numbering) (nv : VerticesNumbered b C N) (nr : RecordsNumbered b C N) (job-fits : U32 job) (round-fits : U16 round) where
-  few-vertices : N .vertices ≤ 1024
-  few-vertices = vertices-within limits b C (right .fits) N nv
+module _ (k : Kind) (k-right : RightKind k) (job round : ℕ) (b : BaseMesh) (C : Cuts (b .pieces)) (right : RightSet (k .limits) b C) (N : Numbering) (nv : VerticesNumbered b C N) (nr : RecordsNumbered b C N) (job-fits : U32 job) (round-fits : U16 round) where
+  few-vertices : N .vertices ≤ k .limits .vertices
+  few-vertices = vertices-within (k .limits) b C (right .fits) N nv
 
-  few-records : N .records ≤ 3072
-  few-records = records-within limits b C (right .fits) N nr
+  few-records : N .records ≤ k .limits .records
+  few-records = records-within (k .limits) b C (right .fits) N nr
 
-  vertex-fits : (v : ℕ) → v < N .vertices → VertexFits (vertexOf b N v)
+  vertex-fits : (v : ℕ) → v < N .vertices → VertexFits (k .format) (vertexOf b N v)
   vertex-fits v h =
       let held = places-held b C N (right .marked) nv v h in
       record {
         x = omega (arith, held .x);
         y = omega (arith, held .y);
         z = omega (arith, held .z);
-        p = ⊎-elim (λ l. inl (rw (lt-ltb v (b .vertices) l))) (λ l. inr (rw (le-ltb v (b .vertices) l) (let m = nv .made v l h in omega (arith, few-vertices, m .p<q, m .q<v)))) (base-or-beyond v (b .vertices));
-        q = ⊎-elim (λ l. inl (rw (lt-ltb v (b .vertices) l))) (λ l. inr (rw (le-ltb v (b .vertices) l) (let m = nv .made v l h in omega (arith, few-vertices, m .q<v)))) (base-or-beyond v (b .vertices));
+        p = ⊎-elim (λ l. inl (rw (lt-ltb v (b .vertices) l))) (λ l. inr (rw (le-ltb v (b .vertices) l) (let m = nv .made v l h in omega (arith, few-vertices, m .p<q, m .q<v, k-right .vertices)))) (base-or-beyond v (b .vertices));
+        q = ⊎-elim (λ l. inl (rw (lt-ltb v (b .vertices) l))) (λ l. inr (rw (le-ltb v (b .vertices) l) (let m = nv .made v l h in omega (arith, few-vertices, m .q<v, k-right .vertices)))) (base-or-beyond v (b .vertices));
       }
 
   -- Its header's numbers fit, and its tables are as long as these say.
-  pub written-counted : Counted (written job round b N)
+  pub written-counted : Counted k (written job round b N)
   written-counted =
       record {
         header = record {
           job = job-fits;
           round = round-fits;
-          baseVertices = omega (arith, few-vertices, nv .base-first);
-          vertices = omega (arith, few-vertices);
-          baseRecords = omega (arith, few-records, nr .base-first);
-          records = omega (arith, few-records);
+          baseVertices = omega (arith, few-vertices, nv .base-first, k-right .vertices);
+          vertices = omega (arith, few-vertices, k-right .vertices);
+          baseRecords = omega (arith, few-records, nr .base-first, k-right .records);
+          records = omega (arith, few-records, k-right .records);
         };
         vertexCount = list-length (vertexOf b N) (N .vertices);
         recordCount = list-length (recordOf b N) (N .records);
+        within = base-within k (headerFor job round b N) (nv .base-first) (nr .base-first);
       }
 
   -- The header that is read is the one that was written.
-  pub header-read : tablesOf (meshBytes (written job round b N)) .header ≡ headerFor job round b N
-  unfolding tablesOf
-  header-read = mesh-header (written job round b N) written-counted
+  pub header-read : tablesOf (storedAs k k-right (written job round b N)) .header ≡ headerFor job round b N
+  unfolding tablesOf storedAs
+  header-read = mesh-header k k-right (written job round b N) written-counted
 
-  module _ (materials : (r : ℕ) → r < b .pieces → MaterialFits false (b .materialAt r)) where
-    record-fits : (r : ℕ) → r < N .records → RecordFits (recordOf b N r)
+  module _ (materials : (r : ℕ) → r < b .pieces → MaterialFits (k .format .material) (b .materialAt r)) where
+    record-fits : (r : ℕ) → r < N .records → RecordFits (k .format) (recordOf b N r)
     record-fits r h =
         let s = pieceAt (named b) (N .nodeAt r) .shape in
         let small = valid-small s (record-valid b C N (right .marked) nr r h) in
@@ -148,34 +150,34 @@ module _ (job round : ℕ) (b : BaseMesh) (C : Cuts (b .pieces)) (right : RightS
           marks = bytes-cons (byte 0 (omega arith)) (bytes-cons (byte 1 (omega arith)) (bytes-cons (byte 2 (omega arith)) (bytes-cons (byte 3 (omega arith)) bytes-none)));
           flag = omega (arith, small .flag);
           generation = omega (arith, right .shallow (N .nodeAt r) (nr .there r h));
-          firstChild = ⊎-elim (λ c. let cut = nr .cut r h c in inr (omega (arith, cut .there, few-records))) (λ f. inl (nr .uncut r h f)) (either (C .has (N .nodeAt r)));
+          firstChild = ⊎-elim (λ c. let cut = nr .cut r h c in inr (omega (arith, cut .there, few-records, k-right .records))) (λ f. inl (nr .uncut r h f)) (either (C .has (N .nodeAt r)));
           material = materials (N .nodeAt r .root) (there-rooted C (N .nodeAt r) (nr .there r h));
         }
       where
-        below : (k : ℕ) → k < 4 → OrNone (N .cornerAt r k)
-        below k l = inr (omega (arith, nr .corner-there r h k l, few-vertices))
+        below : (j : ℕ) → j < 4 → OrNone (k .format) (N .cornerAt r j)
+        below j l = inr (omega (arith, nr .corner-there r h j l, few-vertices, k-right .vertices))
 
-        corner : (k : ℕ) → OrNone (getD (recordOf b N r .piece .corners) k 0)
+        corner : (j : ℕ) → OrNone (k .format) (getD (recordOf b N r .piece .corners) j 0)
         corner zero = below 0 (omega arith)
         corner (suc zero) = below 1 (omega arith)
         corner (suc (suc zero)) = below 2 (omega arith)
         corner (suc (suc (suc zero))) = below 3 (omega arith)
-        corner (suc (suc (suc (suc k)))) = inr (omega arith)
+        corner (suc (suc (suc (suc j)))) = inr (omega (arith, k-right .vertices))
 
     -- Every number of the mesh fits its stored width.
-    pub written-fits : MeshFits (written job round b N)
+    pub written-fits : MeshFits k (written job round b N)
     written-fits =
         let vertices = list-length (vertexOf b N) (N .vertices) in
         let records = list-length (recordOf b N) (N .records) in
         record {
           counts = written-counted;
-          vertices = λ k d l. let h : k < N .vertices = omega arith in subst VertexFits (sym (list-at (vertexOf b N) (N .vertices) k d h)) (vertex-fits k h);
-          records = λ k d l. let h : k < N .records = omega arith in subst RecordFits (sym (list-at (recordOf b N) (N .records) k d h)) (record-fits k h);
+          vertices = λ j d l. let h : j < N .vertices = omega arith in subst (VertexFits (k .format)) (sym (list-at (vertexOf b N) (N .vertices) j d h)) (vertex-fits j h);
+          records = λ j d l. let h : j < N .records = omega arith in subst (RecordFits (k .format)) (sym (list-at (recordOf b N) (N .records) j d h)) (record-fits j h);
         }
 
     -- The tables that are read hold what was numbered.
-    pub written-holds : Holds (tablesOf (meshBytes (written job round b N))) b N
-    unfolding tablesOf
+    pub written-holds : Holds (tablesOf (storedAs k k-right (written job round b N))) b N
+    unfolding tablesOf storedAs
     written-holds =
         record {
           base-vertices = λ i. header-read i .«base_vertices»;
@@ -184,10 +186,10 @@ module _ (job round : ℕ) (b : BaseMesh) (C : Cuts (b .pieces)) (right : RightS
           records = λ i. header-read i .records;
           vertexAt =
               λ v h.
-              mesh-vertex (written job round b N) written-fits v (vertexOf b N v) (rw (list-length (vertexOf b N) (N .vertices)) h)
+              mesh-vertex k k-right (written job round b N) written-fits v (vertexOf b N v) (rw (list-length (vertexOf b N) (N .vertices)) h)
               ∙ list-at (vertexOf b N) (N .vertices) v (vertexOf b N v) h;
           recordAt =
               λ r h.
-              mesh-record (written job round b N) written-fits r (recordOf b N r) (rw (list-length (recordOf b N) (N .records)) h)
+              mesh-record k k-right (written job round b N) written-fits r (recordOf b N r) (rw (list-length (recordOf b N) (N .records)) h)
               ∙ list-at (recordOf b N) (N .records) r (recordOf b N r) h;
         }

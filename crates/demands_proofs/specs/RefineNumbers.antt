@@ -5,6 +5,7 @@ use mathlib.Core.Bool.{true, false, _||_, true≢false}
 use mathlib.Core.Logic.{_↔_, _⊎_, inl, inr, ⊎-elim}
 use mathlib.Core.List.{List, [], _∷_, _++_}
 use Prim.Native.Nat.{ℕ, _+_, _<_, _≤_}
+use native.Mathlib.Nat.{mul-le-mul-left}
 use native.Mathlib.Omega.{arith}
 use lib.Dec.{eqb, leb, ltb}
 use borrow.Author.Tests.{eqb-true, leb-true}
@@ -12,7 +13,9 @@ use Rattle.demands_words.specs.Words.{fullSize}
 use Rattle.laws.specs.Below.{either, or-second}
 use Rattle.laws.specs.Order.{Rule, rule, Giving, Judged, judge, done, judged-then, given-exactly, accepted-exactly, given-passes, OneOf, one-of-them}
 use Rattle.stored.specs.declared.Limits.{Limits}
-use Rattle.stored.specs.Layout.{limits, meshLength, headerOf, selectionOf}
+use Rattle.stored.specs.declared.Format.{Format}
+use Rattle.stored.specs.declared.Kind.{Kind}
+use Rattle.stored.specs.Layout.{vertexWidth, recordWidth, meshLength, Stored, headerOf, StoredSelection, selectionOf}
 use Rattle.mesh_tables.specs.Tables.{Tables, tablesOf, allVertices, allRecords}
 use Rattle.check_refusals.specs.Check.{rows, tableRows, checkNumber}
 use Rattle.check_meaning.specs.Tests.{Fails, reads, not-below, or-fails}
@@ -29,32 +32,32 @@ use Rattle.demands_proofs.specs.Selections.{NamesLeaves, NamesNoneLast, 
 -- ---- what the rules ask
 
 -- How long these tables are as a mesh.
-abbrev pub resultLength : Tables → ℕ
-resultLength m = meshLength (allVertices m) (allRecords m)
+abbrev pub resultLength : Format → Tables → ℕ
+resultLength f m = meshLength f (allVertices m) (allRecords m)
 
 -- 11 to 18, of the mesh and the selection: 16 and 17 are refine's own.
-abbrev pub refineSelectionRules : Tables → List ℕ → List Rule
+abbrev pub refineSelectionRules : Tables → StoredSelection → List Rule
 refineSelectionRules m selection =
     selectionRules m selection ++ (rule 16 (NamesLeaves m selection) ∷ rule 17 (NamesNoneLast m selection) ∷ rule 18 (RoundRises m) ∷ [])
 
 -- 19: no "closed result exceeds 1,024 vertices or 3,072 records"; 20: no "output buffer is shorter than the result".
-abbrev pub resultRules : Tables → ℕ → List Rule
-resultRules m room = rule 19 (Within limits m) ∷ rule 20 (resultLength m ≤ room) ∷ []
+abbrev pub resultRules : Kind → Tables → ℕ → List Rule
+resultRules k m room = rule 19 (Within (k .limits) m) ∷ rule 20 (resultLength (k .format) m ≤ room) ∷ []
 
 -- What refine's rules ask, in the order in which they are tried; the first twelve are check's own.
-abbrev pub refineRules : List ℕ → List ℕ → ℕ → List Rule
-refineRules mesh selection room = checkRules mesh ++ (refineSelectionRules (tablesOf mesh) selection ++ resultRules (closed mesh selection) room)
+abbrev pub refineRules : Stored → StoredSelection → ℕ → List Rule
+refineRules mesh selection room = checkRules mesh ++ (refineSelectionRules (tablesOf mesh) selection ++ resultRules (mesh .kind) (closed mesh selection) room)
 
 -- All of them, named.
-pub record RefineAccepts (mesh selection : List ℕ) (room : ℕ) : Type 0 where
+pub record RefineAccepts (mesh : Stored) (selection : StoredSelection) (room : ℕ) : Type 0 where
   -- 1 to 10, 22 and 23: check accepts the mesh
   pub accepted : Accepted mesh
   -- 11 to 18: the selection is good for it
   pub good : EarnsNone (tablesOf mesh) selection
   -- 19: no "closed result exceeds 1,024 vertices or 3,072 records"
-  pub within : Within limits (closed mesh selection)
+  pub within : Within (mesh .kind .limits) (closed mesh selection)
   -- 20: no "output buffer is shorter than the result"
-  pub long : resultLength (closed mesh selection) ≤ room
+  pub long : resultLength (mesh .kind .format) (closed mesh selection) ≤ room
 
 -- ---- the tests
 
@@ -65,10 +68,10 @@ rule19-holds most m =
     (λ h. record { vertices = h .0; records = h .1 })
     (λ w. (w .vertices, w .records))
 
-pub rule20-holds : (m : Tables) (room : ℕ) → Fails (ltb room (resultLength m)) (resultLength m ≤ room)
-rule20-holds m room = not-below room (resultLength m)
+pub rule20-holds : (f : Format) (m : Tables) (room : ℕ) → Fails (ltb room (resultLength f m)) (resultLength f m ≤ room)
+rule20-holds f m room = not-below room (resultLength f m)
 
-module _ (m : Tables) (selection : List ℕ) where
+module _ (m : Tables) (selection : StoredSelection) where
   refine-selection-judged : Judged (refineSelectionRows m selection) (refineSelectionRules m selection)
   unfolding refineSelectionRows roundRow
   refine-selection-judged =
@@ -92,24 +95,24 @@ module _ (m : Tables) (selection : List ℕ) where
         leb-true n 18 (given-passes (λ k. leb k 18) (refineSelectionRows m selection) refl),
       )
 
-result-judged : (m : Tables) (room : ℕ) → Judged (resultRows (m .header) room) (resultRules m room)
+result-judged : (k : Kind) (m : Tables) (room : ℕ) → Judged (resultRows k (m .header) room) (resultRules k m room)
 unfolding resultRows
-result-judged m room = judge (rule19-holds limits m) λ h19. judge (rule20-holds m room) λ h20. done
+result-judged k m room = judge (rule19-holds (k .limits) m) λ h19. judge (rule20-holds (k .format) m room) λ h20. done
 
 -- ---- the numbers
 
-module _ (mesh selection : List ℕ) (room : ℕ) where
+module _ (mesh : Stored) (selection : StoredSelection) (room : ℕ) where
   -- Refine gives a number exactly where every rule before it holds and its own does not.
   pub refine-refuses-exactly : (n : ℕ) → (refineNumber mesh selection room ≡ n) ↔ Giving (refineRules mesh selection room) n
   unfolding refineNumber rows tableRows refineSelectionRows selectionRows roundRow resultRows
   refine-refuses-exactly =
       given-exactly
-      (judged-then (check-judged mesh) λ accepted. judged-then (refine-selection-judged (tablesOf mesh) selection) λ good. result-judged (closed mesh selection) room)
+      (judged-then (check-judged mesh) λ accepted. judged-then (refine-selection-judged (tablesOf mesh) selection) λ good. result-judged (mesh .kind) (closed mesh selection) room)
       refl
 
-  later-exactly : (n : ℕ) → (laterNumber mesh selection room ≡ n) ↔ Giving (resultRules (closed mesh selection) room) n
+  later-exactly : (n : ℕ) → (laterNumber mesh selection room ≡ n) ↔ Giving (resultRules (mesh .kind) (closed mesh selection) room) n
   unfolding laterNumber storedNumber resultRows
-  later-exactly = given-exactly (result-judged (closed mesh selection) room) refl
+  later-exactly = given-exactly (result-judged (mesh .kind) (closed mesh selection) room) refl
 
   -- Refine gives 0 exactly where all of them hold: check accepts the mesh, the selection is good for it, the closed result is within the limits and
   -- the buffer is long enough.
@@ -126,35 +129,35 @@ module _ (mesh selection : List ℕ) (room : ℕ) where
 abbrev pub NoneOf11To18 : ℕ → Type 0
 NoneOf11To18 number = 11 ≤ number → number ≤ 18 → ⊥
 
-module _ (mesh selection : List ℕ) (accepted : checkNumber mesh ≡ 0) where
+module _ (mesh : Stored) (selection : StoredSelection) (accepted : checkNumber mesh ≡ 0) where
   -- Where the selection is good, 19 and 20 decide, whatever the buffer's length is.
   module _ (g : EarnsNone (tablesOf mesh) selection) (room : ℕ) where
     later : laterNumber mesh selection room ≡ refineNumber mesh selection room
     later = refine-later mesh selection room accepted (selection-exactly (tablesOf mesh) selection .1 g)
 
-    pub good-gives : (n : ℕ) → (refineNumber mesh selection room ≡ n) ↔ Giving (resultRules (closed mesh selection) room) n
+    pub good-gives : (n : ℕ) → (refineNumber mesh selection room ≡ n) ↔ Giving (resultRules (mesh .kind) (closed mesh selection) room) n
     good-gives n = let exactly = later-exactly mesh selection room n in (λ e. exactly .0 (later ∙ e), λ r. sym later ∙ exactly .1 r)
 
     good-one-of : OneOf (0 ∷ 19 ∷ 20 ∷ []) (refineNumber mesh selection room)
     unfolding laterNumber storedNumber resultRows
-    good-one-of = subst (OneOf (0 ∷ 19 ∷ 20 ∷ [])) later (one-of-them (resultRows (closed mesh selection .header) room))
+    good-one-of = subst (OneOf (0 ∷ 19 ∷ 20 ∷ [])) later (one-of-them (resultRows (mesh .kind) (closed mesh selection .header) room))
 
-    pub good-19-exceeds : (refineNumber mesh selection room ≡ 19) ↔ (exceeds limits (closed mesh selection .header) ≡ true)
+    pub good-19-exceeds : (refineNumber mesh selection room ≡ 19) ↔ (exceeds (mesh .kind .limits) (closed mesh selection .header) ≡ true)
     good-19-exceeds =
-        let within = rule19-holds limits (closed mesh selection) in (
-          λ e. ⊎-elim (λ t. t) (λ f. absurd (good-gives 19 .0 e (within .0 f))) (either (exceeds limits (closed mesh selection .header))),
+        let within = rule19-holds (mesh .kind .limits) (closed mesh selection) in (
+          λ e. ⊎-elim (λ t. t) (λ f. absurd (good-gives 19 .0 e (within .0 f))) (either (exceeds (mesh .kind .limits) (closed mesh selection .header))),
           λ t. good-gives 19 .1 (λ w. true≢false (sym t ∙ within .1 w)),
         )
 
     -- "The largest mesh is 62,484 bytes.": with a buffer that can hold it the number is 0 or 19.
-    pub good-number : fullSize ≤ room → (refineNumber mesh selection room ≡ 0) ⊎ (refineNumber mesh selection room ≡ 19)
+    pub good-number : fullSize (mesh .kind) ≤ room → (refineNumber mesh selection room ≡ 0) ⊎ (refineNumber mesh selection room ≡ 19)
     good-number l =
         ⊎-elim inl
         (⊎-elim inr
         (⊎-elim
         (λ e. let (w, short) = good-gives 20 .0 e in
-        let vertices = w .vertices in
-        let records = w .records in
+        let vertices = mul-le-mul-left (vertexWidth (mesh .kind .format)) (w .vertices) in
+        let records = mul-le-mul-left (recordWidth (mesh .kind .format)) (w .records) in
         absurd (short (omega (arith, l, vertices, records))))
         absurd))
         good-one-of
@@ -179,8 +182,8 @@ module _ (mesh selection : List ℕ) (accepted : checkNumber mesh ≡ 0) where
 -- ---- a selection is used once
 
 -- A selection that was used gets 14 from every mesh of the job that check accepts and whose round is greater than the selection's.
-pub used-gets-14 : (mesh selection : List ℕ) (room : ℕ) → refineNumber mesh selection room ≡ 0 →
-    (later : List ℕ) → checkNumber later ≡ 0 → headerOf later .job ≡ headerOf mesh .job → selectionOf selection .round < headerOf later .round →
+pub used-gets-14 : (mesh : Stored) (selection : StoredSelection) (room : ℕ) → refineNumber mesh selection room ≡ 0 →
+    (later : Stored) → checkNumber later ≡ 0 → headerOf later .job ≡ headerOf mesh .job → selectionOf selection .round < headerOf later .round →
     (any : ℕ) → refineNumber later selection any ≡ 14
 unfolding tablesOf
 used-gets-14 mesh selection room e later accepted job above any =

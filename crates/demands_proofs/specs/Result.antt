@@ -2,11 +2,11 @@
 use mathlib.Core.Path.{_≡_, refl, sym, ap, ap₂, subst, _∙_}
 use mathlib.Core.Bool.{Bool, false, cond}
 use mathlib.Core.Logic.{⊎-elim, _≢_}
-use mathlib.Core.List.{List}
+use mathlib.Core.List.{[]}
 use Prim.Native.Nat.{ℕ, _+_, _≤_, _<_}
 use native.Mathlib.Omega.{arith}
 use borrow.Author.Tests.{lt-ltb}
-use Rattle.stored.specs.Fitting.{round-rises}
+use Rattle.stored.specs.Fitting.{U16, round-rises}
 use Rattle.piece.specs.Shape.{lastGeneration}
 use Rattle.piece.specs.declared.Piece.{Piece}
 use Rattle.grid.specs.declared.Place.{Place}
@@ -14,7 +14,8 @@ use Rattle.grid.specs.Places.{pointOf, halfwayOf}
 use Rattle.grid.specs.Corners.{Midpoint}
 use Rattle.grid.specs.GridTheorems.{halfway-exactly, halfway-only}
 use Rattle.stored.specs.declared.Vertex.{Vertex}
-use Rattle.stored.specs.Layout.{none, limits, lastRound, roundAfter, meshBytes}
+use Rattle.stored.specs.Layout.{none, lastRound, roundAfter, meshBytes, Stored, ofKind, StoredSelection, storedAs}
+use Rattle.stored.specs.Meshes.{Counted, one-buffer}
 use Rattle.mesh_tables.specs.Tables as Check
 use Rattle.mesh_tables.specs.Tables.{baseVertices, allVertices, allRecords, pieceAt}
 use Rattle.check_meaning.specs.Accepted.{pointAt, parentP, parentQ}
@@ -35,16 +36,17 @@ use Rattle.cuts.specs.LinkGrown.{Grown}
 use Rattle.demands_words.specs.Words.{BaseMesh, named, VerticesNumbered, Stores, RightSet, StoredMesh, placeOf, GoodSelection}
 use Rattle.demands_proofs.specs.Link.{link}
 use Rattle.demands_proofs.specs.BaseOf.{numbersOf, node-makes}
-use Rattle.demands_proofs.specs.Numbered.{grown-vertices}
+use Rattle.demands_proofs.specs.Numbered.{grown-vertices, grown-records}
 use Rattle.demands_proofs.specs.SetOf.{grown-fits}
-use Rattle.demands_proofs.specs.GrownStores.{grown-stores}
+use Rattle.demands_proofs.specs.GrownStores.{grown-holds, grown-written, grown-stores}
+use Rattle.demands_proofs.specs.Read.{written-counted}
 use Rattle.demands_proofs.specs.Exact.{place-mid, exact-midpoint}
 use Rattle.demands_proofs.specs.Materials.{Materials}
 use Rattle.demands_proofs.specs.HeldEntries.{base-material}
 use Rattle.demands_proofs.specs.FromStored as From
 use Rattle.demands_proofs.specs.Inside.{after, set}
 
-module _ (s : List ℕ) (x : StoredMesh s) (selection : List ℕ) (good : GoodSelection (x .job) (x .round) (x .base) (x .cuts) (x .stores .numbers) selection) where
+module _ (s : Stored) (x : StoredMesh s) (selection : StoredSelection) (good : GoodSelection (x .job) (x .round) (x .base) (x .cuts) (x .stores .numbers) selection) where
   abbrev b : BaseMesh
   b = x .base
 
@@ -69,7 +71,7 @@ module _ (s : List ℕ) (x : StoredMesh s) (selection : List ℕ) (good : GoodSe
   keeps = subst (Keeps m) is-closed (closed-keeps s selection)
 
   pub base-vertices : baseVertices t ≡ b .vertices
-  base-vertices = base-vertices-stay limits (From.chosen s x selection good) m ∙ From.holds s x .base-vertices
+  base-vertices = base-vertices-stay (s .kind .limits) (From.chosen s x selection good) m ∙ From.holds s x .base-vertices
 
   -- ---- the base vertices stay
 
@@ -164,25 +166,41 @@ module _ (s : List ℕ) (x : StoredMesh s) (selection : List ℕ) (good : GoodSe
   not-last : x .round < lastRound
   not-last = let apart : x .round ≢ lastRound = good .not-last-round in omega (arith, x .stores .round-fits)
 
-  pub result-stores : Stores (meshBytes (resultOf t)) (x .job) (x .round + 1) b D
+  round-fits : U16 (x .round + 1)
+  round-fits = omega (arith, not-last)
+
+  same-job : resultOf t .header .job ≡ x .job
   unfolding resultOf
-  result-stores =
-      grown-stores t b D g base-vertices (x .job) (x .round + 1) (x .stores .job-fits) (omega (arith, not-last))
-      (job-stays limits (From.chosen s x selection good) m ∙ From.stored-job s x)
-      (ap roundAfter (round-stays limits (From.chosen s x selection good) m ∙ From.stored-round s x) ∙ round-rises (x .round) not-last)
-      base-parents four materials (x .stores .materials) numbered
+  same-job = job-stays (s .kind .limits) (From.chosen s x selection good) m ∙ From.stored-job s x
+
+  next-round : resultOf t .header .round ≡ x .round + 1
+  unfolding resultOf
+  next-round = ap roundAfter (round-stays (s .kind .limits) (From.chosen s x selection good) m ∙ From.stored-round s x) ∙ round-rises (x .round) not-last
+
+  pub result-stores : Stores (storedAs (s .kind) (s .right) (resultOf t)) (x .job) (x .round + 1) b D
+  result-stores = grown-stores t b D g base-vertices (s .kind) (s .right) (x .job) (x .round + 1) (x .stores .job-fits) round-fits same-job next-round base-parents four materials (x .stores .materials) numbered
 
   -- Where the tables do not exceed their limits, the set is a right one.
-  module _ (few : exceeds limits (t .header) ≡ false) where
-    pub result-right : RightSet b D
+  module _ (few : exceeds (s .kind .limits) (t .header) ≡ false) where
+    pub result-right : RightSet (s .kind .limits) b D
     result-right =
-        let h = within limits (t .header) few in
+        let h = within (s .kind .limits) (t .header) few in
         record {
           marked = x .right .marked;
           none-hangs = From.made s x selection good .rests few;
-          fits = grown-fits t b D g base-vertices limits (h .0) (h .1);
+          fits = grown-fits t b D g base-vertices (s .kind .limits) (h .0) (h .1) (x .right .fits .base-records);
           shallow = there-below lastGeneration D (From.made s x selection good .below);
         }
 
-    abbrev pub result-mesh : StoredMesh (meshBytes (resultOf t))
+    unfoldable pub result-mesh : StoredMesh (storedAs (s .kind) (s .right) (resultOf t))
+    unfolding storedAs
     result-mesh = record { job = x .job; round = x .round + 1; base = b; cuts = D; right = result-right; stores = result-stores }
+
+    -- In one buffer it is the mesh's own bytes, one after the other.
+    result-counted : Counted (s .kind) (resultOf t)
+    result-counted =
+        subst (Counted (s .kind)) (sym (grown-written t b (numbersOf t) (grown-holds t b D g base-vertices base-parents four materials) (x .job) (x .round + 1) same-job next-round))
+        (written-counted (s .kind) (s .right) (x .job) (x .round + 1) b D result-right (numbersOf t) numbered (grown-records t b D g base-vertices) (x .stores .job-fits) round-fits)
+
+    pub result-in-one : s .kind .two ≡ false → storedAs (s .kind) (s .right) (resultOf t) ≡ ofKind s (meshBytes (s .kind .format) (resultOf t)) []
+    result-in-one one = one-buffer (s .kind) (s .right) one (resultOf t) result-counted

@@ -11,7 +11,7 @@ use lib.ListN.{length}
 use lib.Dec.{eqb}
 use Rattle.laws.specs.Order.{Rule, rule, Judged, judge, done}
 use Rattle.piece.specs.Shape.{lastGeneration}
-use Rattle.stored.specs.Layout.{none, lastRound, byteAt, u16At, marked, rightSelectionLength, rightSelectionMark, selectionOf, namedIn}
+use Rattle.stored.specs.Layout.{none, lastRound, byteAt, u16At, marked, StoredSelection, selectionWidth, selectionVersion, numberWidth, numberAt, rightSelectionLength, rightSelectionMark, selectionOf, namedIn}
 use Rattle.mesh_tables.specs.Tables.{Tables, allRecords, pieceAt}
 use Rattle.check_meaning.specs.Tests.{Passes, Fails, reads, equal, at-most, below, not-at-most, fails-unless, not-fails, and-passes, and-fails, or-fails, none-passes}
 use Rattle.check_meaning.specs.Accepted.{firstChild, Leaf}
@@ -21,27 +21,27 @@ use Rattle.demands_words.specs.Words.{countIn, RightSelectionLength, RightSelec
 -- ---- 13 and 14: the job and the round
 
 -- no "another job"
-abbrev pub SameJob : Tables → List ℕ → Type 0
+abbrev pub SameJob : Tables → StoredSelection → Type 0
 SameJob m t = selectionOf t .job ≡ m .header .job
 
 -- no "another round: the selection has expired"
-abbrev pub SameRound : Tables → List ℕ → Type 0
+abbrev pub SameRound : Tables → StoredSelection → Type 0
 SameRound m t = selectionOf t .round ≡ m .header .round
 
 -- ---- 15 to 17: the record numbers
 
-pub record RightNumbers (m : Tables) (t : List ℕ) : Type 0 where
+pub record RightNumbers (m : Tables) (t : StoredSelection) : Type 0 where
   -- no "numbers not strictly rising"
   pub rising : (i j : ℕ) → i < j → j < countIn t → namedIn t i < namedIn t j
   -- no "one not below the record count"
   pub there : (i : ℕ) → i < countIn t → namedIn t i < allRecords m
 
 -- no "named record is already cut"
-abbrev pub NamesLeaves : Tables → List ℕ → Type 0
+abbrev pub NamesLeaves : Tables → StoredSelection → Type 0
 NamesLeaves m t = (i : ℕ) → i < countIn t → Leaf m (namedIn t i)
 
 -- no "named record has generation 15"
-abbrev pub NamesNoneLast : Tables → List ℕ → Type 0
+abbrev pub NamesNoneLast : Tables → StoredSelection → Type 0
 NamesNoneLast m t = (i : ℕ) → i < countIn t → pieceAt m (namedIn t i) .generation ≢ lastGeneration
 
 -- ---- 18: the mesh's round
@@ -53,7 +53,7 @@ RoundRises m = m .header .round ≢ lastRound
 -- ---- all eight
 
 -- 11 to 15, of the mesh and every selection.
-abbrev pub selectionRules : Tables → List ℕ → List Rule
+abbrev pub selectionRules : Tables → StoredSelection → List Rule
 selectionRules m selection =
     rule 11 (RightSelectionLength selection)
     ∷ rule 12 (RightSelectionMark selection)
@@ -63,7 +63,7 @@ selectionRules m selection =
     ∷ []
 
 -- The selection earns none of 11 to 18 from the mesh.
-pub record EarnsNone (m : Tables) (selection : List ℕ) : Type 0 where
+pub record EarnsNone (m : Tables) (selection : StoredSelection) : Type 0 where
   -- 11: "selection under 13 bytes, or length not 13 + 2n"
   pub length : RightSelectionLength selection
   -- 12: "selection's mark or version wrong"
@@ -84,29 +84,29 @@ pub record EarnsNone (m : Tables) (selection : List ℕ) : Type 0 where
 -- ---- the tests
 
 -- The tests of length and mark, as the layout has them.
-pub length-passes : (t : List ℕ) → Passes (rightSelectionLength t) (RightSelectionLength t)
+pub length-passes : (t : StoredSelection) → Passes (rightSelectionLength t) (RightSelectionLength t)
 unfolding rightSelectionLength selectionOf
 length-passes t =
-    reads (and-passes (at-most 13 (length t)) (equal (length t) (13 + 2 * u16At t 11)))
+    reads (and-passes (at-most (selectionWidth (t .format)) (length (t .bytes))) (equal (length (t .bytes)) (selectionWidth (t .format) + numberWidth (t .format) * numberAt (t .format) (t .bytes) 11)))
     (λ h. record { heading = h .0; exact = h .1 })
     (λ r. (r .heading, r .exact))
 
-pub mark-passes : (t : List ℕ) → Passes (rightSelectionMark t) (RightSelectionMark t)
+pub mark-passes : (t : StoredSelection) → Passes (rightSelectionMark t) (RightSelectionMark t)
 unfolding rightSelectionMark marked
 mark-passes t =
-    reads (and-passes (and-passes (and-passes (equal (byteAt t 0) 84) (equal (byteAt t 1) 77)) (equal (byteAt t 2) 83)) (equal (u16At t 3) 1))
+    reads (and-passes (and-passes (and-passes (equal (byteAt (t .bytes) 0) 84) (equal (byteAt (t .bytes) 1) 77)) (equal (byteAt (t .bytes) 2) 83)) (equal (u16At (t .bytes) 3) (selectionVersion (t .format))))
     (λ h. record { T = h .0 .0 .0; M = h .0 .0 .1; S = h .0 .1; version = h .1 })
     (λ r. (((r .T, r .M), r .S), r .version))
 
-pub rule11-holds : (t : List ℕ) → Fails (wrongSelectionLength t) (RightSelectionLength t)
+pub rule11-holds : (t : StoredSelection) → Fails (wrongSelectionLength t) (RightSelectionLength t)
 unfolding wrongSelectionLength
 rule11-holds t = not-fails (length-passes t)
 
-pub rule12-holds : (t : List ℕ) → Fails (wrongSelectionMark t) (RightSelectionMark t)
+pub rule12-holds : (t : StoredSelection) → Fails (wrongSelectionMark t) (RightSelectionMark t)
 unfolding wrongSelectionMark
 rule12-holds t = not-fails (mark-passes t)
 
-module _ (m : Tables) (t : List ℕ) where
+module _ (m : Tables) (t : StoredSelection) where
   pub rule13-holds : Fails (anotherJob (m .header) (selectionOf t)) (SameJob m t)
   unfolding anotherJob
   rule13-holds = not-fails (equal (selectionOf t .job) (m .header .job))

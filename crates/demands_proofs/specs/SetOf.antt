@@ -84,8 +84,8 @@ module _ (m : Check.Tables) (b : BaseMesh) (D : Cuts (b .pieces)) (g : Grown (na
         (omega (arith, rep .bases, records-count (link m) l, where-length (link m .cut) (nodeOf (link m)) (allRecords m)), omega (arith, base-vertices, made-count (link m) l))
 
     -- Where the tables are within limits, so is the set.
-    pub grown-fits : (most : Limits) → allVertices m ≤ most .vertices → allRecords m ≤ most .records → Fits most b D
-    grown-fits most vertices records =
+    pub grown-fits : (most : Limits) → allVertices m ≤ most .vertices → allRecords m ≤ most .records → b .pieces ≤ most .«base_records» → Fits most b D
+    grown-fits most vertices records base-records =
         record {
           cuts = cutNodes (link m);
           cuts-listed = grown-cuts;
@@ -93,6 +93,7 @@ module _ (m : Check.Tables) (b : BaseMesh) (D : Cuts (b .pieces)) (g : Grown (na
           made-listed = grown-made;
           vertices = omega (arith, grown-counts .1, vertices);
           records = omega (arith, grown-counts .0, records);
+          base-records = base-records;
         }
 
     -- Where the tables are not, no set with all these cuts is.

@@ -5,6 +5,7 @@ use Prim.Native.Nat.{ℕ, _<_}
 use native.Mathlib.Omega.{arith}
 use Rattle.laws.specs.Below.{sumBelow, sum-same}
 use Rattle.check_refusals.specs.declared.Report.{Report}
+use Rattle.stored.specs.Layout.{Stored}
 use Rattle.mesh_tables.specs.Tables.{tablesOf, baseRecords}
 use Rattle.check_refusals.specs.Check.{checkNumber, accepted, reportOf, checkOf, leaves, deepest, sixfold}
 use Rattle.check_meaning.specs.Exactly.{accepts-exactly}
@@ -21,11 +22,11 @@ use Rattle.demands_proofs.specs.AcceptedOf.{accepted-of-stored}
 use Rattle.demands_proofs.specs.FromStored as From
 
 -- An accepted mesh's report.
-report-accepted : (s : List ℕ) → checkNumber s ≡ 0 → checkOf s ≡ accepted (tablesOf s)
+report-accepted : (s : Stored) → checkNumber s ≡ 0 → checkOf s ≡ accepted (tablesOf s)
 unfolding checkOf reportOf
 report-accepted s e = rw e
 
-module _ (s : List ℕ) (x : StoredMesh s) where
+module _ (s : Stored) (x : StoredMesh s) where
   pub stored-figures : Figures (x .base) (x .cuts) (checkOf s .leaves) (checkOf s .deepest) (checkOf s .sixfold)
   stored-figures =
       let y = x .stores in
@@ -50,7 +51,7 @@ module _ (s : List ℕ) (x : StoredMesh s) where
       ∙ sum-same (baseRecords m) (volume m) (λ r. sixfoldAt (x .base) (record { root = r; path = [] })) each
       ∙ ap (λ (n : ℕ). sumBelow n (λ r. sixfoldAt (x .base) (record { root = r; path = [] }))) (held .base-records)
 
-module _ (s : List ℕ) (x x′ : StoredMesh s) where
+module _ (s : Stored) (x x′ : StoredMesh s) where
   pub stored-one-base : SameBase (x .base) (x′ .base)
   stored-one-base =
       let y = x .stores in

@@ -11,7 +11,7 @@ use lib.Dec.{ltb}
 use borrow.Author.Tests.{ltb-true}
 use Rattle.laws.specs.Below.{and-left, and-right}
 use Rattle.laws.specs.Lists.{zeroPast, Bytes, bytes-none, bytes-cons}
-use Rattle.stored.specs.Layout.{headerOf}
+use Rattle.stored.specs.Layout.{stored1, headerOf, StoredSelection, selection1}
 use Rattle.mesh_tables.specs.Tables.{tablesOf}
 use Rattle.build_service.specs.Build.{buildNumber, buildBytes}
 use Rattle.build_meaning.specs.Rows.{computed as build-computed}
@@ -81,22 +81,22 @@ abbrev pub K-next : List ℕ
 K-next = K-of 1
 
 -- Nothing is named; record 0 is.
-abbrev pub none-named : ℕ → List ℕ
-none-named round = selecting 7 round 0 []
+abbrev pub none-named : ℕ → StoredSelection
+none-named round = selection1 (selecting 7 round 0 [])
 
-abbrev pub first-named : List ℕ
-first-named = selecting 7 1 1 (0 ∷ [])
+abbrev pub first-named : StoredSelection
+first-named = selection1 (selecting 7 1 1 (0 ∷ []))
 
 -- Refine accepts them, with just the room that the result takes.
-pub K-raised : refineNumber K (none-named 0) 77 ≡ 0
+pub K-raised : refineNumber (stored1 K) (none-named 0) 77 ≡ 0
 unfolding refine-computed
 K-raised = refl
 
-pub K-raised-again : refineNumber K-next (none-named 1) 77 ≡ 0
+pub K-raised-again : refineNumber (stored1 K-next) (none-named 1) 77 ≡ 0
 unfolding refine-computed
 K-raised-again = refl
 
-pub K-next-cut : refineNumber K-next first-named 121 ≡ 0
+pub K-next-cut : refineNumber (stored1 K-next) first-named 121 ≡ 0
 unfolding refine-computed
 K-next-cut = refl
 
@@ -105,11 +105,11 @@ pub K-copied-round : getD (zeroPast 77 K) 9 0 ≡ 0
 unfolding refine-computed
 K-copied-round = refl
 
-pub K-raised-round : getD (refineBytes K (none-named 0) 77) 9 0 ≡ 1
+pub K-raised-round : getD (refineBytes (stored1 K) (none-named 0) 77) 9 0 ≡ 1
 unfolding refine-computed
 K-raised-round = refl
 
-pub K-raised-again-round : getD (refineBytes K-next (none-named 1) 77) 9 0 ≡ 2
+pub K-raised-again-round : getD (refineBytes (stored1 K-next) (none-named 1) 77) 9 0 ≡ 2
 unfolding refine-computed
 K-raised-again-round = refl
 
@@ -138,25 +138,25 @@ K-next-small : small K-next ≡ true
 unfolding refine-computed
 K-next-small = refl
 
-pub K-stored : StoredMesh K
-K-stored = stored-of-accepted K (small-bytes K K-small) (refine-accepts-all K (none-named 0) 77 .0 K-raised .accepted)
+pub K-stored : StoredMesh (stored1 K)
+K-stored = stored-of-accepted (stored1 K) (small-bytes K K-small) bytes-none (refine-accepts-all (stored1 K) (none-named 0) 77 .0 K-raised .accepted)
 
-pub K-next-stored : StoredMesh K-next
-K-next-stored = stored-of-accepted K-next (small-bytes K-next K-next-small) (refine-accepts-all K-next first-named 121 .0 K-next-cut .accepted)
+pub K-next-stored : StoredMesh (stored1 K-next)
+K-next-stored = stored-of-accepted (stored1 K-next) (small-bytes K-next K-next-small) bytes-none (refine-accepts-all (stored1 K-next) first-named 121 .0 K-next-cut .accepted)
 
 -- They are of rounds 0 and 1.
-header-0 : headerOf K .round ≡ 0
+header-0 : headerOf (stored1 K) .round ≡ 0
 unfolding refine-computed
 header-0 = refl
 
-header-1 : headerOf K-next .round ≡ 1
+header-1 : headerOf (stored1 K-next) .round ≡ 1
 unfolding refine-computed
 header-1 = refl
 
 pub K-first-round : K-stored .round ≡ 0
 unfolding tablesOf
-K-first-round = sym (stored-round K K-stored) ∙ header-0
+K-first-round = sym (stored-round (stored1 K) K-stored) ∙ header-0
 
 pub K-later-round : 0 < K-next-stored .round
 unfolding tablesOf
-K-later-round = let round = stored-round K-next K-next-stored in omega (arith, round, header-1)
+K-later-round = let round = stored-round (stored1 K-next) K-next-stored in omega (arith, round, header-1)

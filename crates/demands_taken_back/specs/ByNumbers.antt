@@ -10,7 +10,7 @@ use lib.Dec.{eqb, ltb}
 use borrow.Author.Tests.{eqb-true, eq-eqb, not-true}
 use Rattle.laws.specs.Below.{either, and-left, and-right, anyBelow, any-where, any-fails-at}
 use Rattle.piece_edges.specs.Edges.{lowSlot, highSlot}
-use Rattle.stored.specs.Layout.{none, namedIn}
+use Rattle.stored.specs.Layout.{none, StoredSelection, namedIn}
 use Rattle.cuts_names.specs.Lists.{both-ways, not-so}
 use Rattle.cuts_names.specs.Names.{mid-not-base}
 use Rattle.cuts_names.specs.Pieces.{Side, low, high, makes, Node, kid, pieceAt}
@@ -22,7 +22,7 @@ use Rattle.demands_taken_back.specs.Words.{NamedPiece}
 use Rattle.demands_taken_back.specs.Renumbered.{VertexThere, StillThere}
 
 -- The request names record r.
-abbrev pub NamedNumber : List ℕ → ℕ → Type 0
+abbrev pub NamedNumber : StoredSelection → ℕ → Type 0
 NamedNumber request r = (i : ℕ) × (i < countIn request) × (namedIn request i ≡ r)
 
 -- A cut record that is cut at vertex v and is not freed: it holds v.
@@ -42,7 +42,7 @@ pub record ParentStays (b : BaseMesh) (C : Cuts (b .pieces)) (N : Numbering) (cu
   pub child : (c ≡ N .firstAt parent) ⊎ (c ≡ N .firstAt parent + 1)
 
 -- The sentence by numbers.
-pub record ByNumbers (b : BaseMesh) (C : Cuts (b .pieces)) (N : Numbering) (request : List ℕ) (cutVertex : ℕ → ℕ) (freed vertexStays recordStays : ℕ → Bool) : Type 0 where
+pub record ByNumbers (b : BaseMesh) (C : Cuts (b .pieces)) (N : Numbering) (request : StoredSelection) (cutVertex : ℕ → ℕ) (freed vertexStays recordStays : ℕ → Bool) : Type 0 where
   -- the vertex that a cut record is cut at
   pub cut-below : (r : ℕ) → r < N .records → C .has (N .nodeAt r) ≡ true → cutVertex r < N .vertices
   pub cut-at : (r : ℕ) → r < N .records → C .has (N .nodeAt r) ≡ true → N .nameAt (cutVertex r) ≡ makes (pieceAt (named b) (N .nodeAt r))
@@ -104,7 +104,7 @@ module _ (b : BaseMesh) (C : Cuts (b .pieces)) (N : Numbering) (nv : VerticesNum
 
     -- ---- what remains
 
-    module _ (request : List ℕ) (there : (i : ℕ) → i < countIn request → namedIn request i < N .records) (D : Cuts (b .pieces)) (remains : Remains (named b) C (NamedPiece N request) D)
+    module _ (request : StoredSelection) (there : (i : ℕ) → i < countIn request → namedIn request i < N .records) (D : Cuts (b .pieces)) (remains : Remains (named b) C (NamedPiece N request) D)
         (cutVertex : ℕ → ℕ) (freed vertexStays recordStays : ℕ → Bool) (by : ByNumbers b C N request cutVertex freed vertexStays recordStays)
       where
         -- A record's piece is named where its number is.

@@ -5,6 +5,7 @@ use mathlib.Core.Logic.{⊎-elim}
 use mathlib.Core.List.{List}
 use Prim.Native.Nat.{ℕ, _≤_, _<_}
 use native.Mathlib.Omega.{arith}
+use Rattle.stored.specs.Layout.{Stored}
 use Rattle.stored.specs.declared.Record.{Record}
 use Rattle.mesh_tables.specs.Tables as Check
 use Rattle.mesh_tables.specs.Tables.{tablesOf, vertexWith, refinementEnds, isCut}
@@ -18,7 +19,7 @@ use Rattle.demands_proofs.specs.Link.{link}
 use Rattle.demands_proofs.specs.HeldCuts.{makes-parents}
 use Rattle.demands_proofs.specs.FromStored as From
 
-module _ (s : List ℕ) (x : StoredMesh s) where
+module _ (s : Stored) (x : StoredMesh s) where
   abbrev m : Check.Tables
   m = tablesOf s
 

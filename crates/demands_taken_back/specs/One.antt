@@ -14,7 +14,7 @@ use Rattle.piece_edges.specs.Edges.{lowSlot, highSlot, slots-small}
 use Rattle.piece.specs.Shape.{mark}
 use Rattle.grid.specs.Places.{halfwayOf}
 use Rattle.grid.specs.GridTheorems.{halfway-exactly, halfway-only}
-use Rattle.stored.specs.Layout.{none, meshBytes}
+use Rattle.stored.specs.Layout.{none, Stored, ofKind, storedAs, StoredSelection}
 use Rattle.cuts_names.specs.Names.{mid-injective}
 use Rattle.cuts_names.specs.Pieces.{Node, generation, high, low, kid, pieceAt}
 use Rattle.cuts.specs.Sets.{Cuts, CutsWithin}
@@ -212,9 +212,10 @@ module _ (b : BaseMesh) (N N′ : Numbering) (same : SameNumbering b N N′) whe
 
 -- ---- one mesh
 
--- For a stored mesh and a request there is one mesh that is taken back.
-pub one-taken-back : (s : List ℕ) (x : StoredMesh s) (request mesh mesh′ : List ℕ) → TakenBackFrom x request mesh → TakenBackFrom x request mesh′ → mesh ≡ mesh′
-one-taken-back s x request mesh mesh′ t t′ =
+-- For a stored mesh and a request there is one mesh of its kind that is taken back.
+pub one-taken-back : (s : Stored) (x : StoredMesh s) (request : StoredSelection) (base grown base′ grown′ : List ℕ) → TakenBackFrom x request (ofKind s base grown) → TakenBackFrom x request (ofKind s base′ grown′) →
+    ofKind s base grown ≡ ofKind s base′ grown′
+one-taken-back s x request base grown base′ grown′ t t′ =
     let b = x .base in
     let N = x .stores .numbers in
     let y = t .stores in
@@ -231,26 +232,26 @@ one-taken-back s x request mesh mesh′ t t′ =
     } in
     let same = remains-one (named b) (x .cuts) (NamedPiece N request) (t .set) (t′ .set) (t .remains) (t′ .remains) in
     y .bytes
-    ∙ ap meshBytes (same-written b (y .numbers) (y′ .numbers) (one-numbering b (t .set) (t′ .set) same (y .numbers) (y′ .numbers) (y .vertices-numbered) (y .records-numbered) (y′ .vertices-numbered) (y′ .records-numbered) order) (x .job) (x .round + 1))
+    ∙ ap (storedAs (s .kind) (s .right)) (same-written b (y .numbers) (y′ .numbers) (one-numbering b (t .set) (t′ .set) same (y .numbers) (y′ .numbers) (y .vertices-numbered) (y .records-numbered) (y′ .vertices-numbered) (y′ .records-numbered) order) (x .job) (x .round + 1))
     ∙ sym (y′ .bytes)
 
 -- ---- where nothing goes
 
-module _ (s : List ℕ) (x : StoredMesh s) (request mesh : List ℕ) (t : TakenBackFrom x request mesh) where
+module _ (s : Stored) (x : StoredMesh s) (request : StoredSelection) (base grown : List ℕ) (t : TakenBackFrom x request (ofKind s base grown)) where
   -- Where all cuts remain, the round alone changes.
-  pub nothing-gone : ((n : Node) → t .set .has n ≡ x .cuts .has n) → mesh ≡ meshBytes (written (x .job) (x .round + 1) (x .base) (x .stores .numbers))
+  pub nothing-gone : ((n : Node) → t .set .has n ≡ x .cuts .has n) → ofKind s base grown ≡ storedAs (s .kind) (s .right) (written (x .job) (x .round + 1) (x .base) (x .stores .numbers))
   nothing-gone all =
       let y = t .stores in
       let z = x .stores in
       y .bytes
-      ∙ ap meshBytes
+      ∙ ap (storedAs (s .kind) (s .right))
       (sym
       (same-written (x .base) (z .numbers) (y .numbers)
       (one-numbering (x .base) (x .cuts) (t .set) (λ n. sym (all n)) (z .numbers) (y .numbers) (z .vertices-numbered) (z .records-numbered) (y .vertices-numbered) (y .records-numbered) (t .in-order))
       (x .job) (x .round + 1)))
 
   -- So it does for an empty request.
-  pub empty-request : countIn request ≡ 0 → mesh ≡ meshBytes (written (x .job) (x .round + 1) (x .base) (x .stores .numbers))
+  pub empty-request : countIn request ≡ 0 → ofKind s base grown ≡ storedAs (s .kind) (s .right) (written (x .job) (x .round + 1) (x .base) (x .stores .numbers))
   empty-request none =
       nothing-gone
       (none-named (named (x .base)) (x .cuts) (NamedPiece (x .stores .numbers) request) (λ n c (i, l, e). omega (arith, l, none)) (t .set) (t .remains))

@@ -21,6 +21,7 @@ module _ (b : BaseMesh) (C D : Cuts (b .pieces)) (inside : CutsWithin D C) where
         made = madeOf (named b) cuts;
         made-listed = made;
         vertices = omega (arith, fits .vertices, made-fewer D C inside (named b) (madeOf (named b) cuts) (fits .made) made (fits .made-listed));
+        base-records = fits .base-records;
         records = omega (arith, fits .records, cuts-fewer D C inside cuts (fits .cuts) listed (fits .cuts-listed));
       }
 
@@ -28,5 +29,5 @@ module _ (b : BaseMesh) (C D : Cuts (b .pieces)) (inside : CutsWithin D C) where
   pub smaller-shallow : Shallow b C → Shallow b D
   smaller-shallow shallow n t = shallow n (there-within D C inside n t)
 
-  pub smaller-right : RightSet b C → NoneHangs (named b) D → RightSet b D
-  smaller-right right rests = record { marked = right .marked; none-hangs = rests; fits = smaller-fits _ (right .fits); shallow = smaller-shallow (right .shallow) }
+  pub smaller-right : (most : Limits) → RightSet most b C → NoneHangs (named b) D → RightSet most b D
+  smaller-right most right rests = record { marked = right .marked; none-hangs = rests; fits = smaller-fits most (right .fits); shallow = smaller-shallow (right .shallow) }

@@ -1,15 +1,15 @@
 -- From a stored set and a good request: the set that remains, and that the bytes of its numbering are taken back.
 use mathlib.Core.Path.{_≡_, refl, sym, ap, _∙_}
-use mathlib.Core.Bool.{Bool, true}
+use mathlib.Core.Bool.{Bool, true, false}
 use mathlib.Core.Logic.{_↔_, _≢_}
-use mathlib.Core.List.{List}
 use Prim.Native.Nat.{ℕ, _+_, _≤_}
+use native.Mathlib.Nat.{mul-le-mul-left}
 use native.Mathlib.Omega.{arith}
 use lib.ListN.{length}
 use Rattle.laws.specs.Below.{anyBelow, any-is, any-where, count-at-most}
 use Rattle.stored.specs.Fitting.{U16}
-use Rattle.stored.specs.Layout.{lastRound, meshBytes}
-use Rattle.stored.specs.Meshes.{mesh-length}
+use Rattle.stored.specs.Layout.{lastRound, vertexWidth, recordWidth, meshBytes, Stored, storedAs, StoredSelection}
+use Rattle.stored.specs.Meshes.{Counted, mesh-length, one-buffer, one-length}
 use Rattle.check_refusals.specs.Check.{checkOf}
 use Rattle.check_refusals.specs.Rows.{report-number}
 use Rattle.check_meaning.specs.Exactly.{accepts-exactly}
@@ -20,7 +20,7 @@ use Rattle.cuts.specs.Least.{sameNode, node-equality}
 use Rattle.cuts_coarser.specs.TakenAway.{Remains}
 use Rattle.cuts_coarser.specs.Coarser.{remains-rests, remains-coarser, nothing-coarser}
 use Rattle.cuts_coarser.specs.Remaining.{remaining, remaining-remains, one-leaf-less}
-use Rattle.demands_words.specs.Words.{BaseMesh, named, Numbering, VerticesNumbered, RecordsNumbered, written, RightSet, Stores, StoredMesh, nodeNamed, countIn}
+use Rattle.demands_words.specs.Words.{BaseMesh, named, Numbering, VerticesNumbered, RecordsNumbered, headerFor, written, RightSet, Stores, StoredMesh, nodeNamed, countIn}
 use Rattle.demands_proofs.specs.MarkedBase.{properly-marked}
 use Rattle.demands_proofs.specs.Read.{written-counted}
 use Rattle.demands_proofs.specs.AcceptedOf.{accepted-of-stored}
@@ -29,7 +29,7 @@ use Rattle.demands_taken_back.specs.Words.{GoodRequestFor, NamedPiece, T
 use Rattle.demands_taken_back.specs.Renumbered.{StillThere, numbersLeft, vertices-renumbered, records-renumbered, renumbered-in-order}
 use Rattle.demands_taken_back.specs.Smaller.{smaller-right}
 
-module _ (s : List ℕ) (x : StoredMesh s) (request : List ℕ) where
+module _ (s : Stored) (x : StoredMesh s) (request : StoredSelection) where
   abbrev b : BaseMesh
   b = x .base
 
@@ -69,8 +69,8 @@ module _ (s : List ℕ) (x : StoredMesh s) (request : List ℕ) where
   -- ---- what is stored
 
   module _ (good : GoodRequestFor x request) (D : Cuts (b .pieces)) (remains : Remains (named b) C Named D) where
-    pub remains-right : RightSet b D
-    remains-right = smaller-right b C D (remains .within) (x .right) (remains-rests marked C Named D remains (x .right .none-hangs))
+    pub remains-right : RightSet (s .kind .limits) b D
+    remains-right = smaller-right b C D (remains .within) (s .kind .limits) (x .right) (remains-rests marked C Named D remains (x .right .none-hangs))
 
     round-fits : U16 (x .round + 1)
     round-fits = let apart : x .round ≢ lastRound = good .not-last-round in omega (arith, x .stores .round-fits)
@@ -80,8 +80,8 @@ module _ (s : List ℕ) (x : StoredMesh s) (request : List ℕ) where
       abbrev pub numbers : Numbering
       numbers = numbersLeft b D N vertexStays recordStays
 
-      abbrev pub mesh : List ℕ
-      mesh = meshBytes (written (x .job) (x .round + 1) b numbers)
+      abbrev pub mesh : Stored
+      mesh = storedAs (s .kind) (s .right) (written (x .job) (x .round + 1) b numbers)
 
       vertices-are : VerticesNumbered b D numbers
       vertices-are = vertices-renumbered b (x .right .marked) C D (remains .within) N (x .stores .vertices-numbered) (x .stores .records-numbered) vertexStays recordStays still
@@ -90,14 +90,16 @@ module _ (s : List ℕ) (x : StoredMesh s) (request : List ℕ) where
       records-are = records-renumbered b (x .right .marked) C D (remains .within) N (x .stores .vertices-numbered) (x .stores .records-numbered) vertexStays recordStays still
 
       pub remains-stores : Stores mesh (x .job) (x .round + 1) b D
+      unfolding storedAs
       remains-stores = record { job-fits = x .stores .job-fits; round-fits = round-fits; materials = x .stores .materials; numbers = numbers; vertices-numbered = vertices-are; records-numbered = records-are; bytes = refl }
 
-      abbrev pub remains-mesh : StoredMesh mesh
+      pub remains-mesh : StoredMesh mesh
+      unfolding storedAs
       remains-mesh = record { job = x .job; round = x .round + 1; base = b; cuts = D; right = remains-right; stores = remains-stores }
 
       -- These bytes are what is handed back.
       pub taken-back : TakenBackFrom x request mesh
-      unfolding remains-stores
+      unfolding remains-stores remains-mesh storedAs
       taken-back =
           record {
             set = D;
@@ -112,17 +114,29 @@ module _ (s : List ℕ) (x : StoredMesh s) (request : List ℕ) where
             volume = λ before after p q. stored-volume mesh remains-mesh after q ∙ sym (stored-volume s x before p);
           }
 
-      -- They are no longer than the mesh was.
-      pub no-longer : length mesh ≤ length s
-      no-longer =
+      counted-before : Counted (s .kind) (written (x .job) (x .round) b N)
+      counted-before =
           let y = x .stores in
-          let before = mesh-length (written (x .job) (x .round) b N) (written-counted (x .job) (x .round) b C (x .right) N (y .vertices-numbered) (y .records-numbered) (y .job-fits) (y .round-fits)) in
-          let after = mesh-length (written (x .job) (x .round + 1) b numbers) (written-counted (x .job) (x .round + 1) b D remains-right numbers vertices-are records-are (y .job-fits) round-fits) in
-          omega (arith, before, after, ap length (y .bytes), count-at-most vertexStays (N .vertices), count-at-most recordStays (N .records))
+          written-counted (s .kind) (s .right) (x .job) (x .round) b C (x .right) N (y .vertices-numbered) (y .records-numbered) (y .job-fits) (y .round-fits)
+
+      pub counted-after : Counted (s .kind) (written (x .job) (x .round + 1) b numbers)
+      counted-after = written-counted (s .kind) (s .right) (x .job) (x .round + 1) b D remains-right numbers vertices-are records-are (x .stores .job-fits) round-fits
+
+      -- In one buffer they are no longer than the mesh was.
+      pub no-longer : s .kind .two ≡ false → length (meshBytes (s .kind .format) (written (x .job) (x .round + 1) b numbers)) ≤ length (s .base)
+      no-longer one =
+          let k = s .kind in
+          let f = k .format in
+          let in-one = one-buffer k (s .right) one in
+          let before = mesh-length k (s .right) (written (x .job) (x .round) b N) counted-before ∙ one-length k one (headerFor (x .job) (x .round) b N) in
+          let after = ap (λ (t : Stored). length (t .base)) (sym (in-one (written (x .job) (x .round + 1) b numbers) counted-after)) ∙ mesh-length k (s .right) (written (x .job) (x .round + 1) b numbers) counted-after ∙ one-length k one (headerFor (x .job) (x .round + 1) b numbers) in
+          let vertices = mul-le-mul-left (vertexWidth f) (count-at-most vertexStays (N .vertices)) in
+          let records = mul-le-mul-left (recordWidth f) (count-at-most recordStays (N .records)) in
+          omega (arith, before, after, ap (λ (t : Stored). length (t .base)) (x .stores .bytes), vertices, records)
 
 -- ---- what follows
 
-module _ (s : List ℕ) (x : StoredMesh s) (request mesh : List ℕ) (r : TakenBackFrom x request mesh) where
+module _ (s : Stored) (x : StoredMesh s) (request : StoredSelection) (mesh : Stored) (r : TakenBackFrom x request mesh) where
   -- What is handed back is a stored mesh again, with the same job and base and the next round.
   abbrev pub again : StoredMesh mesh
   again = record { job = x .job; round = x .round + 1; base = x .base; cuts = r .set; right = r .right; stores = r .stores }

@@ -5,13 +5,13 @@
 -- Read with demand 2's words beside it (`demands_words/specs/Words`), and with `cuts_coarser/specs/TakenAway`: `TakenAway`, over names; `Remains`: exactly the cuts at
 -- vertices that are not taken away; `Coarser`: the sets that taking back named cuts with leaves as children can give, with no hanging edge.
 use mathlib.Core.Path.{_≡_}
-use mathlib.Core.Bool.{true}
+use mathlib.Core.Bool.{true, false}
 use mathlib.Core.Logic.{_↔_, _≢_, _⊎_}
-use mathlib.Core.List.{List}
+use mathlib.Core.List.{List, []}
 use Prim.Native.Nat.{ℕ, _+_, _≤_, _<_}
 use lib.ListN.{length, replicate}
 use Rattle.laws.specs.Lists.{zeroPast}
-use Rattle.stored.specs.Layout.{lastRound, selectionOf, namedIn}
+use Rattle.stored.specs.Layout.{lastRound, Stored, ofKind, StoredSelection, selectionOf, namedIn}
 use Rattle.cuts_names.specs.Pieces.{Node}
 use Rattle.cuts.specs.Sets.{Cuts, CutsWithin}
 use Rattle.cuts.specs.Count.{LeafList}
@@ -22,7 +22,7 @@ use Rattle.demands_words.specs.Words.{BaseMesh, named, Numbering, Stores, Right
 -- ---- a request
 
 -- A request that earns none of 11 to 15, 30 and 18, of a set C that is stored with this job, this round and these numbers.
-pub record GoodRequest (job round : ℕ) (b : BaseMesh) (C : Cuts (b .pieces)) (N : Numbering) (request : List ℕ) : Type 0 where
+pub record GoodRequest (job round : ℕ) (b : BaseMesh) (C : Cuts (b .pieces)) (N : Numbering) (request : StoredSelection) : Type 0 where
   -- not 11: "selection under 13 bytes, or length not 13 + 2n"
   pub length : RightSelectionLength request
   -- not 12: "selection's mark or version wrong"
@@ -40,11 +40,11 @@ pub record GoodRequest (job round : ℕ) (b : BaseMesh) (C : Cuts (b .pieces)) (
   pub not-last-round : round ≢ lastRound
 
 -- The pieces whose records are named.
-abbrev pub NamedPiece : Numbering → List ℕ → Node → Type 0
+abbrev pub NamedPiece : Numbering → StoredSelection → Node → Type 0
 NamedPiece = SelectedPiece
 
 -- The same of a stored mesh x: the request is good for it.
-abbrev pub GoodRequestFor : {s : List ℕ} → StoredMesh s → List ℕ → Type 0
+abbrev pub GoodRequestFor : {s : Stored} → StoredMesh s → StoredSelection → Type 0
 GoodRequestFor x request = GoodRequest (x .job) (x .round) (x .base) (x .cuts) (x .stores .numbers) request
 
 -- ---- what is handed back
@@ -58,12 +58,12 @@ pub record SameOrder (N N′ : Numbering) : Type 0 where
       N .nodeAt q ≡ N′ .nodeAt q′ → N .nodeAt r ≡ N′ .nodeAt r′ → q < r → q′ < r′
 
 -- The mesh that is left of a set C, stored with this job, this round and the numbers N, without the named cuts that can go.
-pub record TakenBack (job round : ℕ) (b : BaseMesh) (C : Cuts (b .pieces)) (N : Numbering) (Named : Node → Type 0) (mesh : List ℕ) : Type 0 where
+pub record TakenBack (job round : ℕ) (b : BaseMesh) (C : Cuts (b .pieces)) (N : Numbering) (Named : Node → Type 0) (mesh : Stored) : Type 0 where
   pub set : Cuts (b .pieces)
   -- the same job, the same base; "the round rises by 1"
   pub stores : Stores mesh job (round + 1) b set
-  -- no hanging edge, within 01's limits: "accepted by check"
-  pub right : RightSet b set
+  -- no hanging edge, within 01's limits, or those of its kind: "accepted by check"
+  pub right : RightSet (mesh .kind .limits) b set
   -- "A made vertex is taken away exactly when every record cut at it has two leaves as children and all those records are named": the set has exactly the
   -- cuts at vertices that are not taken away
   pub remains : Remains (named b) C Named set
@@ -77,29 +77,29 @@ pub record TakenBack (job round : ℕ) (b : BaseMesh) (C : Cuts (b .pieces)) (N 
   -- "keeps the summed volume"
   pub volume : (before after : List Node) → LeafList C before → LeafList set after → sumOf (sixfoldAt b) after ≡ sumOf (sixfoldAt b) before
 
--- The answer's number and bytes: that mesh and zeros past it, or 20 and zeros where the buffer is shorter.
-pub record TakenBackOrShort (job round : ℕ) (b : BaseMesh) (C : Cuts (b .pieces)) (N : Numbering) (Named : Node → Type 0) (number : ℕ) (bytes : List ℕ) (room : ℕ) : Type 0 where
+-- The answer's number and bytes in one buffer: a mesh of the same kind as s, and zeros past it, or 20 and zeros where the buffer is shorter.
+pub record TakenBackOrShort (s : Stored) (job round : ℕ) (b : BaseMesh) (C : Cuts (b .pieces)) (N : Numbering) (Named : Node → Type 0) (number : ℕ) (bytes : List ℕ) (room : ℕ) : Type 0 where
   pub mesh : List ℕ
-  pub taken-back : TakenBack job round b C N Named mesh
+  pub taken-back : TakenBack job round b C N Named (ofKind s mesh [])
   pub accepted-or-short : (number ≡ 0) ⊎ (number ≡ 20)
   pub fits : (number ≡ 0) ↔ (length mesh ≤ room)
   pub written : number ≡ 0 → bytes ≡ zeroPast room mesh
   pub zeros : number ≡ 20 → bytes ≡ replicate room 0
 
 -- The same of a stored mesh x and a request.
-abbrev pub TakenBackFrom : {s : List ℕ} → StoredMesh s → List ℕ → List ℕ → Type 0
+abbrev pub TakenBackFrom : {s : Stored} → StoredMesh s → StoredSelection → Stored → Type 0
 TakenBackFrom x request mesh = TakenBack (x .job) (x .round) (x .base) (x .cuts) (x .stores .numbers) (NamedPiece (x .stores .numbers) request) mesh
 
-abbrev pub TakenBackOrShortFrom : {s : List ℕ} → StoredMesh s → List ℕ → ℕ → List ℕ → ℕ → Type 0
-TakenBackOrShortFrom x request number bytes room =
-    TakenBackOrShort (x .job) (x .round) (x .base) (x .cuts) (x .stores .numbers) (NamedPiece (x .stores .numbers) request) number bytes room
+abbrev pub TakenBackOrShortFrom : {s : Stored} → StoredMesh s → StoredSelection → ℕ → List ℕ → ℕ → Type 0
+TakenBackOrShortFrom {s} x request number bytes room =
+    TakenBackOrShort s (x .job) (x .round) (x .base) (x .cuts) (x .stores .numbers) (NamedPiece (x .stores .numbers) request) number bytes room
 
 -- ---- what is asked of a service that takes cuts back, by its number and all bytes of its output buffer, for a mesh, a request and a buffer of so many bytes
 
-pub record MeetsTakenBack (takeBack : List ℕ → List ℕ → ℕ → ℕ) (takeBackOut : List ℕ → List ℕ → ℕ → List ℕ) : Type 0 where
-  -- For every stored mesh, every good request and every buffer.
-  pub taken-back : (s : List ℕ) (x : StoredMesh s) (request : List ℕ) → GoodRequestFor x request → (room : ℕ) →
+pub record MeetsTakenBack (takeBack : Stored → StoredSelection → ℕ → ℕ) (takeBackOut : Stored → StoredSelection → ℕ → List ℕ) : Type 0 where
+  -- For every stored mesh of a kind in one buffer, every good request and every buffer.
+  pub taken-back : (s : Stored) → s .kind .two ≡ false → (x : StoredMesh s) (request : StoredSelection) → GoodRequestFor x request → (room : ℕ) →
       TakenBackOrShortFrom x request (takeBack s request room) (takeBackOut s request room) room
   -- A request is good exactly when the answer is 0 or 20 for every buffer.
-  pub good-exactly : (s : List ℕ) (x : StoredMesh s) (request : List ℕ) →
+  pub good-exactly : (s : Stored) (x : StoredMesh s) (request : StoredSelection) →
       GoodRequestFor x request ↔ ((room : ℕ) → (takeBack s request room ≡ 0) ⊎ (takeBack s request room ≡ 20))

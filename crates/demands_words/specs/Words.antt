@@ -13,7 +13,8 @@
 --   double is the sum, in each coordinate (`grid/specs/Corners`); `signedOf`: the determinant of corners 1, 2, 3 less corner 0, and `sixfoldOf`: its absolute value
 --   (`grid_volume/specs/Volume`); `WeightedMean`: a point is a weighted mean of four corners, with weights that are not negative (`grid_inside/specs/Weights`) (on demand 3's page `markedAt`: a
 --   face's mark, named by its midpoint, and `SameFace`: the same three corners, over names; `cuts_names/specs/Base`).
--- - `meshBytes`, `selectionOf`, `namedIn`: document 01's layout of a mesh's and a selection's bytes (`stored/specs/Layout`); `MaterialFits stored m`: m is a byte,
+-- - `Stored`: a stored mesh, its kind (format, limits, one buffer or two) and its bytes; `storedAs`: a mesh of numbers in the bytes of a kind; `StoredSelection`, `selectionOf`, `namedIn`: a
+--   selection's bytes, all in document 01's layout and its later versions' (`stored/specs/Layout`); `MaterialFits stored m`: m is a byte,
 --   and 0 where none is stored (`stored/specs/Fitting`).
 use mathlib.Core.Path.{_≡_}
 use mathlib.Core.Logic.{_↔_, _≢_}
@@ -40,10 +41,11 @@ use Rattle.stored.specs.Fitting.{U16, U32, MaterialFits}
 use Rattle.laws.specs.Below.{listBelow}
 use Rattle.grid.specs.Corners.{Midpoint}
 use Rattle.stored.specs.declared.Limits.{Limits}
+use Rattle.stored.specs.declared.Kind.{Kind}
 use Rattle.stored.specs.declared.Header.{Header}
 use Rattle.stored.specs.declared.Vertex.{Vertex}
 use Rattle.stored.specs.declared.Record.{Record}
-use Rattle.stored.specs.Layout.{none, Mesh, meshBytes, limits, meshLength, lastRound, selectionOf, namedIn, byteAt, u16At}
+use Rattle.stored.specs.Layout.{none, Mesh, version1, limits, Stored, stored1, storedAs, meshLength, lastRound, StoredSelection, selectionWidth, selectionVersion, numberWidth, selectionOf, namedIn, byteAt, u16At}
 use Rattle.cuts.specs.Sets.{Cuts, There, NoneHangs, Leaf, CutsWithin}
 use Rattle.cuts.specs.Count.{CutList, MadeList, LeafList}
 use Rattle.build_marks.specs.Marking.{plainPlace, plainPiece, rightedPiece, markedPiece}
@@ -142,7 +144,7 @@ pub record ProperlyMarked (b : BaseMesh) : Type 0 where
   -- a shared face has one mark
   pub one-mark : (r s i j : ℕ) → r < s → s < b .pieces → i < 4 → j < 4 → SameBaseFace b r i s j → SameBaseMark b r i s j
 
--- ======== demand 2: what a byte string stores
+-- ======== demand 2: what a stored mesh is
 
 -- ---- within limits
 
@@ -155,10 +157,11 @@ pub record Fits (most : Limits) (b : BaseMesh) (C : Cuts (b .pieces)) : Type 0 w
   pub made-listed : MadeList (named b) C made
   pub vertices : b .vertices + length made ≤ most .vertices
   pub records : b .pieces + 2 * length cuts ≤ most .records
+  pub base-records : b .pieces ≤ most .«base_records»
 
 -- "An output buffer that can hold the largest mesh of the version written is full-size."
-abbrev pub fullSize : ℕ
-fullSize = meshLength (limits .vertices) (limits .records)
+abbrev pub fullSize : Kind → ℕ
+fullSize k = meshLength (k .format) (k .limits .vertices) (k .limits .records)
 
 -- "Generations go up to 15": of whatever is there.
 abbrev pub Shallow : (b : BaseMesh) → Cuts (b .pieces) → Type 0
@@ -268,35 +271,35 @@ abbrev pub written : ℕ → ℕ → BaseMesh → Numbering → Mesh
 written job round b N =
     record { header = headerFor job round b N; vertices = listBelow (N .vertices) (vertexOf b N); records = listBelow (N .records) (recordOf b N) }
 
--- The byte string stores the set C of cuts of the base mesh b, for this job and round.
-pub record Stores (s : List ℕ) (job round : ℕ) (b : BaseMesh) (C : Cuts (b .pieces)) : Type 0 where
+-- The stored mesh stores the set C of cuts of the base mesh b, for this job and round.
+pub record Stores (s : Stored) (job round : ℕ) (b : BaseMesh) (C : Cuts (b .pieces)) : Type 0 where
   pub job-fits : U32 job
   pub round-fits : U16 round
-  -- version 1 stores no material: it is 0
-  pub materials : (r : ℕ) → r < b .pieces → MaterialFits false (b .materialAt r)
+  -- "a material from 0 to 255", and 0 where the format has none, as version 1's
+  pub materials : (r : ℕ) → r < b .pieces → MaterialFits (s .kind .format .material) (b .materialAt r)
   pub numbers : Numbering
   pub vertices-numbered : VerticesNumbered b C numbers
   pub records-numbered : RecordsNumbered b C numbers
-  pub bytes : s ≡ meshBytes (written job round b numbers)
+  pub bytes : s ≡ storedAs (s .kind) (s .right) (written job round b numbers)
 
 -- ---- all of it together: "a set of such cuts of a properly marked base mesh with no hanging edge, within 01's limits"
 
 -- A base mesh and a set of cuts of it.
-pub record RightSet (b : BaseMesh) (C : Cuts (b .pieces)) : Type 0 where
+pub record RightSet (most : Limits) (b : BaseMesh) (C : Cuts (b .pieces)) : Type 0 where
   -- "a properly marked base mesh"
   pub marked : ProperlyMarked b
   -- "with no hanging edge"
   pub none-hangs : NoneHangs (named b) C
-  -- "within 01's limits"
-  pub fits : Fits limits b C
+  -- "within 01's limits", or those that the kind has
+  pub fits : Fits most b C
   pub shallow : Shallow b C
 
-pub record StoredMesh (s : List ℕ) : Type 0 where
+pub record StoredMesh (s : Stored) : Type 0 where
   pub job : ℕ
   pub round : ℕ
   pub base : BaseMesh
   pub cuts : Cuts (base .pieces)
-  pub right : RightSet base cuts
+  pub right : RightSet (s .kind .limits) base cuts
   pub stores : Stores s job round base cuts
 
 -- ---- what two such sets, stored by the same bytes, have the same
@@ -452,7 +455,7 @@ SomeVertexHangs b = (v r : ℕ) × (v < b .vertices) × (r < b .pieces) × Hangs
 
 -- The result has "20 + 10·vertices + 17·records" bytes.
 abbrev pub Roomy : BaseMesh → ℕ → Type 0
-Roomy b room = meshLength (b .vertices) (b .pieces) ≤ room
+Roomy b room = meshLength version1 (b .vertices) (b .pieces) ≤ room
 
 -- ---- what build is given and hands back
 
@@ -484,9 +487,9 @@ no-cuts count = record { has = λ n. false; rooted = λ n t. absurd (false≢tru
 
 -- The output buffer holds the stored base mesh of the lists, right-handed and with nothing cut, for this job and round 0, and zeros past it.
 pub record BuiltMesh (job : ℕ) (coordinates : List ℤ) (corners : List ℕ) (bytes : List ℕ) (room : ℕ) : Type 0 where
-  pub right : RightSet (builtBase coordinates corners) (no-cuts (builtBase coordinates corners .pieces))
+  pub right : RightSet limits (builtBase coordinates corners) (no-cuts (builtBase coordinates corners .pieces))
   pub result : List ℕ
-  pub stores : Stores result job 0 (builtBase coordinates corners) (no-cuts (builtBase coordinates corners .pieces))
+  pub stores : Stores (stored1 result) job 0 (builtBase coordinates corners) (no-cuts (builtBase coordinates corners .pieces))
   pub fits-room : length result ≤ room
   pub buffer : bytes ≡ zeroPast room result
 
@@ -495,27 +498,27 @@ pub record BuiltMesh (job : ℕ) (coordinates : List ℤ) (corners : List ℕ) (
 -- ---- a selection
 
 -- "count n (u16) at 11, then n record numbers (u16)": how many.
-abbrev pub countIn : List ℕ → ℕ
+abbrev pub countIn : StoredSelection → ℕ
 countIn t = selectionOf t .count
 
 -- No "selection under 13 bytes, or length not 13 + 2n".
-pub record RightSelectionLength (t : List ℕ) : Type 0 where
-  pub heading : 13 ≤ length t
-  pub exact : length t ≡ 13 + 2 * countIn t
+pub record RightSelectionLength (t : StoredSelection) : Type 0 where
+  pub heading : selectionWidth (t .format) ≤ length (t .bytes)
+  pub exact : length (t .bytes) ≡ selectionWidth (t .format) + numberWidth (t .format) * countIn t
 
 -- "`TMS` at 0, version 1 at 3".
-pub record RightSelectionMark (t : List ℕ) : Type 0 where
-  pub T : byteAt t 0 ≡ 84
-  pub M : byteAt t 1 ≡ 77
-  pub S : byteAt t 2 ≡ 83
-  pub version : u16At t 3 ≡ 1
+pub record RightSelectionMark (t : StoredSelection) : Type 0 where
+  pub T : byteAt (t .bytes) 0 ≡ 84
+  pub M : byteAt (t .bytes) 1 ≡ 77
+  pub S : byteAt (t .bytes) 2 ≡ 83
+  pub version : u16At (t .bytes) 3 ≡ selectionVersion (t .format)
 
 -- The node of the record that the selection's i-th number names.
-abbrev pub nodeNamed : Numbering → List ℕ → ℕ → Node
+abbrev pub nodeNamed : Numbering → StoredSelection → ℕ → Node
 nodeNamed N selection i = N .nodeAt (namedIn selection i)
 
 -- A selection "that earns none of refusals 11 to 18", of a set C that is stored with this job, this round and these numbers.
-pub record GoodSelection (job round : ℕ) (b : BaseMesh) (C : Cuts (b .pieces)) (N : Numbering) (selection : List ℕ) : Type 0 where
+pub record GoodSelection (job round : ℕ) (b : BaseMesh) (C : Cuts (b .pieces)) (N : Numbering) (selection : StoredSelection) : Type 0 where
   -- not 11: "selection under 13 bytes, or length not 13 + 2n"
   pub length : RightSelectionLength selection
   -- not 12: "selection's mark or version wrong"
@@ -535,7 +538,7 @@ pub record GoodSelection (job round : ℕ) (b : BaseMesh) (C : Cuts (b .pieces))
   pub not-last-round : round ≢ lastRound
 
 -- The selected pieces.
-abbrev pub SelectedPiece : Numbering → List ℕ → Node → Type 0
+abbrev pub SelectedPiece : Numbering → StoredSelection → Node → Type 0
 SelectedPiece N selection n = (i : ℕ) × (i < countIn selection) × (nodeNamed N selection i ≡ n)
 
 -- X is one of "every set of further cuts that cuts each selected piece and leaves no hanging edge".
@@ -549,5 +552,5 @@ pub record Closes (b : BaseMesh) (C : Cuts (b .pieces)) (selected : Node → Typ
   pub cuts-listed : CutList X cuts
 
 -- The same of a stored mesh x: the selection is good for it.
-abbrev pub GoodFor : {s : List ℕ} → StoredMesh s → List ℕ → Type 0
+abbrev pub GoodFor : {s : Stored} → StoredMesh s → StoredSelection → Type 0
 GoodFor x selection = GoodSelection (x .job) (x .round) (x .base) (x .cuts) (x .stores .numbers) selection

@@ -8,6 +8,7 @@ use Rattle.laws.specs.Pairs.{SamePair}
 use Rattle.piece_edges.specs.Edges.{lowSlot, highSlot, slots-small}
 use Rattle.piece.specs.Shape.{Shape, shapeOf, mark}
 use Rattle.piece.specs.Ends.{cornerAt}
+use Rattle.stored.specs.Layout.{Stored}
 use Rattle.mesh_tables.specs.Tables.{Tables, tablesOf, allVertices, baseRecords, allRecords, pieceAt}
 use Rattle.check_meaning.specs.Accepted.{OnRecordFace, SameRecordFace, markedEnds, Leaf, RightFaces, NoneHangs, Accepted}
 use Rattle.check_meaning.specs.Cuts.{is-leaf, rule10-holds, stored-four}
@@ -251,7 +252,7 @@ module _ (m : Tables) (l : Lawful (link m)) where
         }
 
 -- Every accepted mesh meets face to face.
-pub accepted-meets : (s : List ℕ) → Accepted s → FaceToFace (tablesOf s)
+pub accepted-meets : (s : Stored) → Accepted s → FaceToFace (tablesOf s)
 accepted-meets s a =
     let m = tablesOf s in
     let l = accepted-lawful m (a .mesh) (stored-four s) in

@@ -11,8 +11,8 @@ use lib.ListN.{length, take, getD, replicate, length-append}
 use lib.Seq.{take-at}
 use borrow.Author.Tests.{ltb-true, ltb-false, eqb-true, eqb-false, not-true}
 use Rattle.laws.specs.Below.{either}
-use Rattle.laws.specs.Lists.{zeroPast, Bytes}
-use Rattle.stored.specs.Layout.{limits}
+use Rattle.laws.specs.Lists.{zeroPast, Bytes, bytes-none}
+use Rattle.stored.specs.Layout.{version1, Stored, stored1}
 use Rattle.mesh_tables.specs.Tables.{tablesOf, allRecords, isLeaf, pieceAt}
 use Rattle.laws.specs.Order.{given-passes}
 use Rattle.check_refusals.specs.Check.{tableRows, rows, checkNumber, checkOf}
@@ -38,8 +38,8 @@ fit-at [] f k = omega arith
 fit-at (l ∷ rest) f zero = f .0
 fit-at (l ∷ rest) f (suc k) = fit-at rest (f .1) k
 
-module _ (s : List ℕ) where
-  few-records : checkOf s .number ≡ 0 → allRecords (tablesOf s) ≤ limits .records
+module _ (s : Stored) where
+  few-records : checkOf s .number ≡ 0 → allRecords (tablesOf s) ≤ s .kind .limits .records
   unfolding tablesOf
   few-records e = accepted-bounded s e .records
 
@@ -52,22 +52,22 @@ module _ (s : List ℕ) where
   check-not-20 = eqb-false (checkNumber s) 20 (not-true (eqb (checkNumber s) 20) (given-passes (λ k. not (eqb k 20)) (rows s) refl))
 
 module _ (s : List ℕ) (b : Bytes s) where
-  leaves-fit : (n : ℕ) → n ≤ 10 ^ 10 → Fit (leafLines (tablesOf s) n)
+  leaves-fit : (n : ℕ) → n ≤ 10 ^ 10 → Fit (leafLines (tablesOf (stored1 s)) n)
   unfolding leafLines
   leaves-fit zero l = tt
-  leaves-fit (suc n) l = fit-append (leafLines (tablesOf s) n) (cond (isLeaf (tablesOf s) n) (leafLine n (pieceAt (tablesOf s) n) ∷ []) []) (leaves-fit n (omega arith)) (here (isLeaf (tablesOf s) n))
+  leaves-fit (suc n) l = fit-append (leafLines (tablesOf (stored1 s)) n) (cond (isLeaf (tablesOf (stored1 s)) n) (leafLine n (pieceAt (tablesOf (stored1 s)) n) ∷ []) []) (leaves-fit n (omega arith)) (here (isLeaf (tablesOf (stored1 s)) n))
     where
-      here : (leaf : Bool) → Fit (cond leaf (leafLine n (pieceAt (tablesOf s) n) ∷ []) [])
-      here true = (leaf-fits n (tablesOf s .recordAt n) (omega arith) (record-of s b n), tt)
+      here : (leaf : Bool) → Fit (cond leaf (leafLine n (pieceAt (tablesOf (stored1 s)) n) ∷ []) [])
+      here true = (leaf-fits version1 n (tablesOf (stored1 s) .recordAt n) (omega arith) (record-of (stored1 s) b bytes-none n), tt)
       here false = tt
 
-  judged-fit : Fit (judgedLines (tablesOf s) (checkOf s))
+  judged-fit : Fit (judgedLines (tablesOf (stored1 s)) (checkOf (stored1 s)))
   unfolding judgedLines meshLines
   judged-fit =
       ⊎-elim
-      (λ t. let good = eqb-true (checkOf s .number) 0 t in rw t (heading-fits s b (checkOf s) refl good, leaves-fit (allRecords (tablesOf s)) (omega (arith, few-records s good))))
-      (λ f. rw f (refused-long (checkOf s .number) (omega (arith, number-small s)), tt))
-      (either (eqb (checkOf s .number) 0))
+      (λ t. let good = eqb-true (checkOf (stored1 s) .number) 0 t in rw t (heading-fits (stored1 s) b bytes-none (checkOf (stored1 s)) refl good, leaves-fit (allRecords (tablesOf (stored1 s))) (omega (arith, few-records (stored1 s) good))))
+      (λ f. rw f (refused-long (checkOf (stored1 s) .number) (omega (arith, number-small (stored1 s))), tt))
+      (either (eqb (checkOf (stored1 s) .number) 0))
 
   -- "Each line is set in a 128-byte line buffer": no line is longer, whatever the bytes.
   pub no-line-longer : (k : ℕ) → length (getD (linesOf s) k []) ≤ lineRoom
@@ -75,17 +75,17 @@ module _ (s : List ℕ) (b : Bytes s) where
   no-line-longer k =
       ⊎-elim
       (λ t. rw t (fit-at (refusedLine 1 ∷ []) (refused-long 1 (omega arith), tt) k))
-      (λ f. rw f (fit-at (judgedLines (tablesOf s) (checkOf s)) judged-fit k))
+      (λ f. rw f (fit-at (judgedLines (tablesOf (stored1 s)) (checkOf (stored1 s))) judged-fit k))
       (either (ltb largestMesh (length s)))
 
-  judged-at-most : length (textOf (judgedLines (tablesOf s) (checkOf s))) ≤ largestListing
+  judged-at-most : length (textOf (judgedLines (tablesOf (stored1 s)) (checkOf (stored1 s)))) ≤ largestListing
   judged-at-most =
       ⊎-elim
-      (λ t. let good = eqb-true (checkOf s .number) 0 t in
-      rw (judged-listed (tablesOf s) (checkOf s) good, length-append (headingLine (tablesOf s .header) (checkOf s)) (textOf (leafLines (tablesOf s) (allRecords (tablesOf s)))))
-      (omega (arith, heading-fits s b (checkOf s) refl good, leaves-long (tablesOf s) (record-of s b) (allRecords (tablesOf s)) (omega (arith, few-records s good)), few-records s good)))
-      (λ f. rw (judged-refused (tablesOf s) (checkOf s) (eqb-false (checkOf s .number) 0 f)) (omega (arith, refused-long (checkOf s .number) (omega (arith, number-small s)))))
-      (either (eqb (checkOf s .number) 0))
+      (λ t. let good = eqb-true (checkOf (stored1 s) .number) 0 t in
+      rw (judged-listed (tablesOf (stored1 s)) (checkOf (stored1 s)) good, length-append (headingLine (tablesOf (stored1 s) .header) (checkOf (stored1 s))) (textOf (leafLines (tablesOf (stored1 s)) (allRecords (tablesOf (stored1 s))))))
+      (omega (arith, heading-fits (stored1 s) b bytes-none (checkOf (stored1 s)) refl good, leaves-long (tablesOf (stored1 s)) version1 (record-of (stored1 s) b bytes-none) (allRecords (tablesOf (stored1 s))) (omega (arith, few-records (stored1 s) good)), few-records (stored1 s) good)))
+      (λ f. rw (judged-refused (tablesOf (stored1 s)) (checkOf (stored1 s)) (eqb-false (checkOf (stored1 s) .number) 0 f)) (omega (arith, refused-long (checkOf (stored1 s) .number) (omega (arith, number-small (stored1 s))))))
+      (either (eqb (checkOf (stored1 s) .number) 0))
 
   -- No listing is longer than 393,344 bytes.
   pub listing-at-most : length (listingOf s) ≤ largestListing
@@ -104,7 +104,7 @@ module _ (s : List ℕ) (b : Bytes s) where
     never-20 e =
         ⊎-elim
         (λ t. omega (arith, e, whole .0, longer-number s (ltb-true largestMesh (length s) t)))
-        (λ f. check-not-20 s (omega (arith, e, whole .0, judged-number s (ltb-false largestMesh (length s) f), report-number s)))
+        (λ f. check-not-20 (stored1 s) (omega (arith, e, whole .0, judged-number s (ltb-false largestMesh (length s) f), report-number (stored1 s))))
         (either (ltb largestMesh (length s)))
 
     pub whole-listing : take (listLength s room) (listBytes s room) ≡ listingOf s

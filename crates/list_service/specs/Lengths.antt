@@ -11,10 +11,11 @@ use Rattle.laws.specs.Below.{greatest-at-most, count-at-most}
 use Rattle.laws.specs.Lists.{Bytes}
 use Rattle.piece.specs.declared.Piece.{Piece}
 use Rattle.piece.specs.Ends.{cornerAt, lowerEnd, higherEnd, endsOf}
+use Rattle.stored.specs.declared.Format.{Format}
 use Rattle.stored.specs.declared.Header.{Header}
 use Rattle.stored.specs.declared.Record.{Record}
-use Rattle.stored.specs.Layout.{headerOf, layoutOf}
-use Rattle.stored.specs.Fitting.{HeaderFits, RecordFits, header-fits, record-fits}
+use Rattle.stored.specs.Layout.{Stored, layoutIn}
+use Rattle.stored.specs.Fitting.{HeaderFits, RecordFits, stored-none-small, number-is-u32, header-fits, record-fits}
 use Rattle.check_refusals.specs.declared.Report.{Report}
 use Rattle.mesh_tables.specs.Tables.{tablesOf, allRecords, uncut, isLeaf}
 use Rattle.check_refusals.specs.Check.{accepted, checkOf, leaves, leafGeneration, deepest, sixfold}
@@ -55,11 +56,13 @@ pub refused-long : (n : ℕ) → n < 10 ^ 20 → length (refusedLine n) ≤ line
 unfolding refusedLine word
 refused-long n h = line-long (("refused ", n) ∷ []) (19 ∷ []) (h, tt) (omega arith)
 
-heading-long : (h : Header) (r : Report) → HeaderFits h → r .leaves ≤ h .records → r .deepest < 256 → r .sixfold < 10 ^ 20 → length (headingLine h r) ≤ lineRoom
+heading-long : (f : Format) (h : Header) (r : Report) → HeaderFits f h → r .leaves ≤ h .records → r .deepest < 256 → r .sixfold < 10 ^ 20 → length (headingLine h r) ≤ lineRoom
 unfolding headingLine countFigures checkFigures word
-heading-long h r fits leaves deepest volume =
-    line-long (countFigures h ++ checkFigures r) (9 ∷ 4 ∷ 4 ∷ 4 ∷ 4 ∷ 2 ∷ 19 ∷ [])
-    (omega (arith, fits .job), (omega (arith, fits .round), (omega (arith, fits .vertices), (omega (arith, fits .records), (omega (arith, leaves, fits .records), (omega (arith, deepest), (volume, tt)))))))
+heading-long f h r fits leaves deepest volume =
+    let vertices = number-is-u32 f (h .vertices) (fits .vertices) in
+    let records = number-is-u32 f (h .records) (fits .records) in
+    line-long (countFigures h ++ checkFigures r) (9 ∷ 4 ∷ 9 ∷ 9 ∷ 9 ∷ 2 ∷ 19 ∷ [])
+    (omega (arith, fits .job), (omega (arith, fits .round), (omega (arith, vertices), (omega (arith, records), (omega (arith, leaves, records), (omega (arith, deepest), (volume, tt)))))))
     (omega arith)
 
 -- A leaf's line, of numbers that four bytes hold.
@@ -72,20 +75,20 @@ leaf-long n p small corners generation =
 
 -- ---- of what is read from bytes
 
-pub leaf-fits : (n : ℕ) (r : Record) → n < 10 ^ 10 → RecordFits r → length (leafLine n (r .piece)) ≤ lineRoom
-leaf-fits n r small fits = leaf-long n (r .piece) small corner (omega (arith, fits .generation))
+pub leaf-fits : (f : Format) (n : ℕ) (r : Record) → n < 10 ^ 10 → RecordFits f r → length (leafLine n (r .piece)) ≤ lineRoom
+leaf-fits f n r small fits = leaf-long n (r .piece) small corner (omega (arith, fits .generation))
   where
     corner : (k : ℕ) → cornerAt (r .piece) k < 10 ^ 10
-    corner k = ⊎-elim (λ e. omega (arith, e)) (λ l. omega (arith, l)) (fits .corners k)
+    corner k = ⊎-elim (λ e. omega (arith, e)) (λ l. omega (arith, l, stored-none-small f)) (fits .corners k)
 
-module _ (s : List ℕ) (b : Bytes s) where
-  pub record-of : (n : ℕ) → RecordFits (tablesOf s .recordAt n)
+module _ (s : Stored) (b : Bytes (s .base)) (g : Bytes (s .grown)) where
+  pub record-of : (n : ℕ) → RecordFits (s .kind .format) (tablesOf s .recordAt n)
   unfolding tablesOf
-  record-of n = record-fits (layoutOf (headerOf s)) s s b b n
+  record-of n = record-fits (layoutIn s) (s .base) (s .grown) b g n
 
-  header-of : HeaderFits (tablesOf s .header)
+  header-of : HeaderFits (s .kind .format) (tablesOf s .header)
   unfolding tablesOf
-  header-of = header-fits s b
+  header-of = header-fits (s .base) b (s .kind .format)
 
   few : leaves (tablesOf s) ≤ allRecords (tablesOf s)
   unfolding leaves
@@ -111,4 +114,4 @@ module _ (s : List ℕ) (b : Bytes s) where
   heading-fits r is e =
       let good : checkOf s .number ≡ 0 = rw (← is) e in
       rw (is, ← accepted-whole s good)
-      (heading-long (tablesOf s .header) (accepted (tablesOf s)) header-of few (omega (arith, not-deep)) (volume good))
+      (heading-long (s .kind .format) (tablesOf s .header) (accepted (tablesOf s)) header-of few (omega (arith, not-deep)) (volume good))

@@ -6,7 +6,7 @@ use mathlib.Core.List.{List, [], _∷_, _++_}
 use lib.ListN.{length, replicate}
 use lib.Dec.{ltb, eqb}
 use Rattle.laws.specs.Lists.{zeroPast, joined}
-use Rattle.stored.specs.Layout.{limits, meshLength}
+use Rattle.stored.specs.Layout.{version1, limits, stored1, meshLength}
 use Rattle.check_refusals.specs.declared.Report.{Report}
 use Rattle.mesh_tables.specs.Tables.{Tables, tablesOf, allRecords, isLeaf, pieceAt}
 use Rattle.check_refusals.specs.Check.{checkOf}
@@ -15,7 +15,7 @@ use Rattle.list_service.specs.declared.Listed.{Listed}
 
 -- "The largest mesh is 62,484 bytes."
 abbrev pub largestMesh : ℕ
-largestMesh = meshLength (limits .vertices) (limits .records)
+largestMesh = meshLength version1 (limits .vertices) (limits .records)
 
 -- "then each leaf in rising record number": those below n.
 unfoldable pub leafLines : Tables → ℕ → List (List ℕ)
@@ -32,7 +32,7 @@ judgedLines m r = let lines = meshLines m r in cond (eqb (r .number) 0) lines (r
 -- "input longer than the largest mesh is refused with 1 here"
 unfoldable pub linesOf : List ℕ → List (List ℕ)
 linesOf s =
-    let lines = judgedLines (tablesOf s) (checkOf s) in
+    let lines = judgedLines (tablesOf (stored1 s)) (checkOf (stored1 s)) in
     cond (ltb largestMesh (length s)) (refusedLine 1 ∷ []) lines
 
 -- Lines, one after the other, and the whole output.
@@ -46,7 +46,7 @@ listingOf s = textOf (linesOf s)
 
 -- "input longer than the largest mesh is refused with 1 here", and any other has check's number.
 unfoldable pub listedNumber : List ℕ → ℕ
-listedNumber s = let judged = checkOf s .number in cond (ltb largestMesh (length s)) 1 judged
+listedNumber s = let judged = checkOf (stored1 s) .number in cond (ltb largestMesh (length s)) 1 judged
 
 -- The mesh's own number; else 20, "the output buffer is shorter than the result", or 0.
 unfoldable pub listNumber : List ℕ → ℕ → ℕ

@@ -12,7 +12,9 @@ use lib.ListN.{length, take, replicate, length-append}
 use lib.Seq.{sets, length-sets}
 use borrow.Author.Tests.{eq-eqb, ne-eqb, lt-ltb, le-ltb}
 use Rattle.laws.specs.Lists.{joined, joined-append, sets-append, clear-with}
+use Rattle.stored.specs.declared.Format.{Format}
 use Rattle.stored.specs.declared.Record.{Record}
+use Rattle.stored.specs.Layout.{stored1}
 use Rattle.stored.specs.Fitting.{RecordFits}
 use Rattle.check_refusals.specs.declared.Report.{Report}
 use Rattle.mesh_tables.specs.Tables.{Tables, tablesOf, allRecords, uncut, isLeaf, pieceAt}
@@ -53,12 +55,12 @@ set-whole buffer text b at l e = ap (λ (k : Line). take (k .at) (k .bytes)) e �
 unfoldable pub leafText : Record → ℕ → List ℕ
 leafText r n = let text = leafLine n (r .piece) in cond (uncut r) text []
 
-text-long : (n : ℕ) (r : Record) → n < 10 ^ 10 → RecordFits r → length (leafText r n) ≤ lineRoom
+text-long : (f : Format) (n : ℕ) (r : Record) → n < 10 ^ 10 → RecordFits f r → length (leafText r n) ≤ lineRoom
 unfolding leafText
-text-long n r l fits = go (uncut r)
+text-long f n r l fits = go (uncut r)
   where
     go : (leaf : Bool) → length (cond leaf (leafLine n (r .piece)) []) ≤ lineRoom
-    go true = leaf-fits n r l fits
+    go true = leaf-fits f n r l fits
     go false = omega arith
 
 module _ (m : Tables) where
@@ -81,11 +83,11 @@ module _ (m : Tables) where
   leaves-next n = rw (add-one n) (leaves-suc n)
 
   -- so many records have at most so many lines
-  pub leaves-long : ((n : ℕ) → RecordFits (m .recordAt n)) → (n : ℕ) → n ≤ 10 ^ 10 → length (textOf (leafLines m n)) ≤ lineRoom * n
-  leaves-long fits zero l = rw leaves-none (omega arith)
-  leaves-long fits (suc n) l =
+  pub leaves-long : (f : Format) → ((n : ℕ) → RecordFits f (m .recordAt n)) → (n : ℕ) → n ≤ 10 ^ 10 → length (textOf (leafLines m n)) ≤ lineRoom * n
+  leaves-long f fits zero l = rw leaves-none (omega arith)
+  leaves-long f fits (suc n) l =
       rw (leaves-suc n, length-append (textOf (leafLines m n)) (leafText (m .recordAt n) n))
-      (omega (arith, leaves-long fits n (omega arith), text-long n (m .recordAt n) (omega arith) (fits n)))
+      (omega (arith, leaves-long f fits n (omega arith), text-long f n (m .recordAt n) (omega arith) (fits n)))
 
 -- ---- the whole
 
@@ -111,11 +113,11 @@ module _ (s : List ℕ) where
   unfolding listedNumber
   longer-number l = rw (lt-ltb largestMesh (length s) l)
 
-  pub judged-text : length s ≤ largestMesh → listingOf s ≡ textOf (judgedLines (tablesOf s) (checkOf s))
+  pub judged-text : length s ≤ largestMesh → listingOf s ≡ textOf (judgedLines (tablesOf (stored1 s)) (checkOf (stored1 s)))
   unfolding listingOf linesOf
   judged-text l = rw (le-ltb largestMesh (length s) l)
 
-  pub judged-number : length s ≤ largestMesh → listedNumber s ≡ checkOf s .number
+  pub judged-number : length s ≤ largestMesh → listedNumber s ≡ checkOf (stored1 s) .number
   unfolding listedNumber
   judged-number l = rw (le-ltb largestMesh (length s) l)
 

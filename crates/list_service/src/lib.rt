@@ -5,10 +5,11 @@ use stored::Header;
 use stored::Layout;
 ghost use mathlib.Core.Path.{_≡_};
 ghost use mathlib.Core.Bool.{cond};
+ghost use mathlib.Core.List.{[]};
 ghost use Prim.Native.Nat.{ℕ, _+_, _≤_, _<_, _^_};
 ghost use lib.ListN.{length};
 ghost use lib.Dec.{eqb};
-ghost use Rattle.stored.specs.Layout.{headerOf, recordIn};
+ghost use Rattle.stored.specs.Layout.{stored1, headerOf, recordIn};
 ghost use Rattle.mesh_tables.specs.Tables.{tablesOf};
 ghost use Rattle.check_refusals.specs.Check.{checkOf};
 ghost use Rattle.list_lines.specs.Lines.{lineRoom, refusedLine, headingLine, leafLine};
@@ -63,21 +64,22 @@ fn put_leaf(out: &mut [u8], at: usize, n: usize, p: Piece) -> usize
 // Record n's line, if it is a leaf.
 fn put_record(out: &mut [u8], at: usize, mesh: &[u8], l: Layout, n: usize) -> usize
     requires { ⌜ (n < 10 ^ 10) × (at + lineRoom < 2 ^ 64) ⌝ }
-    ensures { λ r. ⌜ TextPut (now (out .entry)) at (leafText (recordIn l (now (mesh .entry)) (now (mesh .entry)) n) n) (now (out .exit)) r ⌝ }
+    ensures { λ r. ⌜ TextPut (now (out .entry)) at (leafText (recordIn l (now (mesh .entry)) [] n) n) (now (out .exit)) r ⌝ }
 {
-    if !mesh_tables::is_leaf(l, mesh, mesh, n) {
+    let nothing = &mesh[..0];
+    if !mesh_tables::is_leaf(l, mesh, nothing, n) {
         return at;
     }
-    let record = stored_entries::record_in(l, mesh, mesh, n);
+    let record = stored_entries::record_in(l, mesh, nothing, n);
     put_leaf(out, at, n, record.piece)
 }
 
 // "then each leaf in rising record number"
 fn put_leaves(out: &mut [u8], at: usize, mesh: &[u8], h: Header) -> usize
-    requires { ⌜ (at ≤ lineRoom) × (h ≡ headerOf (now mesh)) ⌝ }
-    ensures { λ r. ⌜ TextPut (now (out .entry)) at (textOf (leafLines (tablesOf (now (mesh .entry))) (h .records))) (now (out .exit)) r ⌝ }
+    requires { ⌜ (at ≤ lineRoom) × (h ≡ headerOf (stored1 (now mesh))) ⌝ }
+    ensures { λ r. ⌜ TextPut (now (out .entry)) at (textOf (leafLines (tablesOf (stored1 (now (mesh .entry)))) (h .records))) (now (out .exit)) r ⌝ }
 {
-    let l = stored::layout_of(h);
+    let l = stored::layout_of(stored::kind_1(), h);
     let count = h.records as usize;
     let mut next = at;
     let mut n: usize = 0;
@@ -90,13 +92,13 @@ fn put_leaves(out: &mut [u8], at: usize, mesh: &[u8], h: Header) -> usize
 
 // "Refused: one line"; "else one heading line [..], then each leaf".
 fn put_judged(out: &mut [u8], mesh: &[u8], report: Report) -> usize
-    requires { ⌜ report ≡ checkOf (now mesh) ⌝ }
-    ensures { λ r. ⌜ TextPut (now (out .entry)) 0 (textOf (judgedLines (tablesOf (now (mesh .entry))) report)) (now (out .exit)) r ⌝ }
+    requires { ⌜ report ≡ checkOf (stored1 (now mesh)) ⌝ }
+    ensures { λ r. ⌜ TextPut (now (out .entry)) 0 (textOf (judgedLines (tablesOf (stored1 (now (mesh .entry)))) report)) (now (out .exit)) r ⌝ }
 {
     if report.number != 0 {
         return put_refused(out, report.number);
     }
-    let h = stored_headers::header_of(mesh);
+    let h = stored_headers::header_from(stored::version_1(), mesh);
     let at = put_heading(out, h, report);
     put_leaves(out, at, mesh, h)
 }

@@ -14,7 +14,7 @@ use Rattle.stored.specs.declared.Layout.{Layout}
 use Rattle.stored.specs.declared.Header.{Header}
 use Rattle.stored.specs.declared.Vertex.{Vertex}
 use Rattle.stored.specs.declared.Record.{Record}
-use Rattle.stored.specs.Layout.{none, headerOf, layoutOf, vertexIn, recordIn}
+use Rattle.stored.specs.Layout.{none, Stored, headerOf, layoutIn, vertexIn, recordIn}
 
 pub record Tables : Type 0 where
   pub header : Header
@@ -25,9 +25,9 @@ pub record Tables : Type 0 where
 abbrev pub tables : Header → Layout → List ℕ → List ℕ → Tables
 tables h l base grown = record { header = h; vertexAt = vertexIn l base grown; recordAt = recordIn l base grown }
 
--- The tables that a byte string holds.
-unfoldable pub tablesOf : List ℕ → Tables
-tablesOf s = tables (headerOf s) (layoutOf (headerOf s)) s s
+-- The tables that a stored mesh holds.
+unfoldable pub tablesOf : Stored → Tables
+tablesOf s = tables (headerOf s) (layoutIn s) (s .base) (s .grown)
 
 -- The four counts.
 abbrev pub baseVertices : Tables → ℕ

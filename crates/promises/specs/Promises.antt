@@ -2,13 +2,14 @@
 -- of the demands' pages.
 use mathlib.Core.Path.{_≡_, sym, _∙_, subst, subst₂}
 use mathlib.Core.Logic.{_↔_, _≢_}
-use mathlib.Core.List.{List}
+use mathlib.Core.Bool.{false}
+use mathlib.Core.List.{List, []}
 use Prim.Native.Nat.{ℕ, _+_, _≤_, _<_}
 use lib.ListN.{length, getD}
 use lib.IntN.{ℤ, pos, _*ℤ_}
 use lib.Signed.{_<ℤ_}
 use Rattle.laws.specs.Lists.{zeroPast, Bytes}
-use Rattle.stored.specs.Layout.{selectionOf}
+use Rattle.stored.specs.Layout.{Stored, ofKind, stored1, StoredSelection, selectionOf}
 use Rattle.check_refusals.specs.declared.Report.{Report}
 use Rattle.mesh_tables.specs.Tables.{tablesOf, allRecords}
 use Rattle.check_refusals.specs.Check.{CheckOutcomeIs}
@@ -31,7 +32,7 @@ use Rattle.face_to_face.specs.FaceToFace.{Meets, face-to-face, built-meets, ref
 
 -- ---- check
 
-pub record CheckPromise (mesh : List ℕ) (r : Report) : Type 0 where
+pub record CheckPromise (mesh : Stored) (r : Report) : Type 0 where
   -- demand 1
   pub outcome : CheckOutcome mesh r
   -- demand 2
@@ -47,13 +48,13 @@ pub record CheckPromise (mesh : List ℕ) (r : Report) : Type 0 where
   -- request thirteen
   pub meets : r .number ≡ 0 → FaceToFace (tablesOf mesh)
 
-pub check-promised : (mesh : List ℕ) (r : Report) → Bytes mesh → CheckOutcomeIs mesh r → CheckPromise mesh r
-check-promised mesh r bytes is =
+pub check-promised : (mesh : Stored) (r : Report) → Bytes (mesh .base) → Bytes (mesh .grown) → CheckOutcomeIs mesh r → CheckPromise mesh r
+check-promised mesh r bytes grown is =
     let both = demand-2 .accepted-exactly mesh in
     subst (CheckPromise mesh) (sym is)
     (record {
       outcome = check-outcome mesh;
-      exactly = (λ e. both .0 (bytes, e), λ x. both .1 x .1);
+      exactly = (λ e. both .0 ((bytes, grown), e), λ x. both .1 x .1);
       figures = demand-2 .figures mesh;
       no-vertex-hangs = λ e. no-vertex-hangs mesh (sym (report-number mesh) ∙ e);
       vertex-hangs = λ e. vertex-hangs mesh (sym (report-number mesh) ∙ e);
@@ -80,7 +81,7 @@ pub record BuildPromise (job : ℕ) (coordinates : List ℤ) (corners : List ℕ
   -- request three: left-handed pieces have their last two corners exchanged, and the marked edges, as pairs of vertices, are those of the pieces as given
   pub as-given : number ≡ 0 → (r : ℕ) → r < plainBase coordinates corners .pieces → AsGiven (plainBase coordinates corners) (builtBase coordinates corners) r
   -- request thirteen
-  pub meets : number ≡ 0 → Meets out room
+  pub meets : number ≡ 0 → Meets stored1 out room
 
 pub build-promised : (job : ℕ) (coordinates : List ℤ) (corners : List ℕ) (room number : ℕ) (out : List ℕ) → ArgumentTypes job coordinates corners → BuildOutcomeIs job coordinates corners room number out →
     BuildPromise job coordinates corners room number out
@@ -98,7 +99,7 @@ build-promised job coordinates corners room number out types is =
 
 -- ---- refine
 
-pub record RefinePromise (mesh selection : List ℕ) (room number : ℕ) (out : List ℕ) : Type 0 where
+pub record RefinePromise (mesh : Stored) (selection : StoredSelection) (room number : ℕ) (out : List ℕ) : Type 0 where
   -- demand 1, and what is accepted, whatever the buffer's length
   pub outcome : RefineOutcome mesh selection room number out
   -- "a choice of pieces belongs to one job and one round": a whole selection of another job gets 13, one of another round 14, and what is accepted earns none
@@ -110,12 +111,12 @@ pub record RefinePromise (mesh selection : List ℕ) (room number : ℕ) (out : 
   pub exactly : (x : StoredMesh mesh) → GoodFor x selection → (number ≡ 0) ↔ ClosedFits mesh selection room
   pub closing : (x : StoredMesh mesh) → GoodFor x selection → number ≡ 0 → out ≡ zeroPast room (closedBytes mesh selection)
   -- demand 3
-  pub least-or-full : (x : StoredMesh mesh) → GoodFor x selection → fullSize ≤ room → LeastOrFullFrom x selection number out room
+  pub least-or-full : (x : StoredMesh mesh) → GoodFor x selection → fullSize (mesh .kind) ≤ room → LeastOrFullFrom x selection number out room
   -- request thirteen
-  pub meets : number ≡ 0 → Meets out room
+  pub meets : number ≡ 0 → Meets (λ bytes. ofKind mesh bytes []) out room
 
-pub refine-promised : (mesh selection : List ℕ) (room number : ℕ) (out : List ℕ) → Bytes mesh → RefineOutcomeIs mesh selection room number out → RefinePromise mesh selection room number out
-refine-promised mesh selection room number out bytes is =
+pub refine-promised : (mesh : Stored) → mesh .kind .two ≡ false → (selection : StoredSelection) (room number : ℕ) (out : List ℕ) → Bytes (mesh .base) → Bytes (mesh .grown) → RefineOutcomeIs mesh selection room number out → RefinePromise mesh selection room number out
+refine-promised mesh one selection room number out bytes grown is =
     subst₂ (RefinePromise mesh selection room) (sym (is .number)) (sym (is .bytes))
     (record {
       outcome = refine-outcome mesh selection bytes room;
@@ -124,8 +125,8 @@ refine-promised mesh selection room number out bytes is =
       good = λ e x. accepted-good mesh x selection room e;
       exactly = λ x good. demand-2 .refine-accepts mesh x selection good room;
       closing = λ x good. demand-2 .closing mesh x selection good room;
-      least-or-full = λ x good full-size. demand-3 .least-or-full mesh x selection good room full-size;
-      meets = refined-meets mesh selection bytes room;
+      least-or-full = λ x good full-size. demand-3 .least-or-full mesh one x selection good room full-size;
+      meets = refined-meets mesh one selection bytes grown room;
     })
 
 -- ---- list

@@ -3,11 +3,12 @@
 use check_refusals::Report;
 use list_service::Listed;
 ghost use lib.ListN.{length};
+ghost use Rattle.stored.specs.Layout.{stored1, selection1};
 ghost use Rattle.promises.specs.Promises.{EachI16, CheckPromise, BuildPromise, RefinePromise, ListPromise};
 ghost use Rattle.promises.specs.TakeBack.{TakeBackPromise};
 
 pub fn check(mesh: &[u8]) -> Report
-    ensures { λ r. ⌜ CheckPromise (now (mesh .entry)) r ⌝ }
+    ensures { λ r. ⌜ CheckPromise (stored1 (now (mesh .entry))) r ⌝ }
 {
     station::tmb_check(mesh)
 }
@@ -31,13 +32,13 @@ pub fn build(job: u32, coordinates: &[i16], corners: &[u16], out: &mut [u8]) -> 
 }
 
 pub fn refine<'a>(mesh: &'a [u8], selection: &'a [u8], out: &mut [u8]) -> u32
-    ensures { λ r. ⌜ RefinePromise (now (mesh .entry)) (now (selection .entry)) (length (now (out .entry))) r (now (out .exit)) ⌝ }
+    ensures { λ r. ⌜ RefinePromise (stored1 (now (mesh .entry))) (selection1 (now (selection .entry))) (length (now (out .entry))) r (now (out .exit)) ⌝ }
 {
     station::tmb_refine(mesh, selection, out)
 }
 
 pub fn take_back<'a>(mesh: &'a [u8], request: &'a [u8], out: &mut [u8]) -> u32
-    ensures { λ r. ⌜ TakeBackPromise (now (mesh .entry)) (now (request .entry)) (length (now (out .entry))) r (now (out .exit)) ⌝ }
+    ensures { λ r. ⌜ TakeBackPromise (stored1 (now (mesh .entry))) (selection1 (now (request .entry))) (length (now (out .entry))) r (now (out .exit)) ⌝ }
 {
     station::tmb_take_back(mesh, request, out)
 }

@@ -18,35 +18,36 @@ use Rattle.piece.specs.Shape.{Shape, shapeOf, mark, setP, unsetP, slotA, slotB}
 use Rattle.piece_edges.specs.Edges.{sharedSlot}
 use Rattle.piece_cut.specs.Cut.{newMark, childFlag, childMark, childShape, childOf, cutOf}
 use Rattle.grid.specs.Places.{halfwayOf}
+use Rattle.stored.specs.declared.Format.{Format}
 use Rattle.stored.specs.declared.Vertex.{Vertex}
 use Rattle.stored.specs.declared.Record.{Record}
 use Rattle.stored.specs.Fitting.{OrNone, VertexFits, RecordFits}
 use Rattle.refine_cut.specs.Cut.{midpointOf, cutRecord, leafRecord}
 
 -- The record cut: only its first child is another.
-pub cut-record-fits : (r : Record) (c : ℕ) → RecordFits r → OrNone c → RecordFits (cutRecord (r .piece) c)
-cut-record-fits r c f h =
+pub cut-record-fits : (f : Format) (r : Record) (c : ℕ) → RecordFits f r → OrNone f c → RecordFits f (cutRecord (r .piece) c)
+cut-record-fits f r c u h =
     record {
-      fourCorners = f .fourCorners;
-      corners = f .corners;
-      edge = f .edge;
-      fourMarks = f .fourMarks;
-      marks = f .marks;
-      flag = f .flag;
-      generation = f .generation;
+      fourCorners = u .fourCorners;
+      corners = u .corners;
+      edge = u .edge;
+      fourMarks = u .fourMarks;
+      marks = u .marks;
+      flag = u .flag;
+      generation = u .generation;
       firstChild = h;
-      material = f .material;
+      material = u .material;
     }
 
 -- One corner is another, or none is.
-set-fits : (l : List ℕ) (k w : ℕ) → ((j : ℕ) → OrNone (getD l j 0)) → OrNone w → (j : ℕ) → OrNone (getD (set l k w) j 0)
-set-fits l k w f h j =
+set-fits : (f : Format) (l : List ℕ) (k w : ℕ) → ((j : ℕ) → OrNone f (getD l j 0)) → OrNone f w → (j : ℕ) → OrNone f (getD (set l k w) j 0)
+set-fits f l k w u h j =
     ⊎-elim
     (λ t. elim (ℕ-discrete j k) [
       | yes e ↦ rw (e, getD-set-same l k w 0 (ltb-true k (length l) t)) h
-      | no ne ↦ rw (getD-set-other l k j w 0 ne) (f j)
+      | no ne ↦ rw (getD-set-other l k j w 0 ne) (u j)
     ])
-    (λ g. rw (set-out l k w (ltb-false k (length l) g)) (f j))
+    (λ g. rw (set-out l k w (ltb-false k (length l) g)) (u j))
     (either (ltb k (length l)))
 
 -- A child's marks are edge codes, or its parent's mark.
@@ -67,32 +68,32 @@ mark-small : (s : Shape) (k i : ℕ) → mark s k < 256 → childMark s k i < 25
 unfolding childMark
 mark-small s k i h = picked (eqb i k) h (picked (eqb i (otherEnd (s .edge) k)) (new-small s k) (code-small i k))
 
-pub child-fits : (r : Record) → RecordFits r → (w k : ℕ) → OrNone w → RecordFits (leafRecord (childOf (r .piece) w k))
+pub child-fits : (f : Format) (r : Record) → RecordFits f r → (w k : ℕ) → OrNone f w → RecordFits f (leafRecord (childOf (r .piece) w k))
 unfolding childOf childShape childFlag
-child-fits r f w k h =
+child-fits f r u w k h =
     let s = shapeOf (r .piece) in
-    let inherited = f .marks .byte k in
+    let inherited = u .marks .byte k in
     record {
-      fourCorners = length-set (r .piece .corners) k w ∙ f .fourCorners;
-      corners = set-fits (r .piece .corners) k w (f .corners) h;
+      fourCorners = length-set (r .piece .corners) k w ∙ u .fourCorners;
+      corners = set-fits f (r .piece .corners) k w (u .corners) h;
       edge = inherited;
       fourMarks = refl;
       marks = bytes-cons (mark-small s k 0 inherited) (bytes-cons (mark-small s k 1 inherited) (bytes-cons (mark-small s k 2 inherited) (bytes-cons (mark-small s k 3 inherited) bytes-none)));
       flag = omega (arith, bit-small (unsetP s));
       generation = omega arith;
       firstChild = inl refl;
-      material = f .material;
+      material = u .material;
     }
 
-pub children-fit : (r : Record) → RecordFits r → (w : ℕ) → OrNone w → RecordFits (leafRecord (cutOf (r .piece) w .first)) × RecordFits (leafRecord (cutOf (r .piece) w .second))
+pub children-fit : (f : Format) (r : Record) → RecordFits f r → (w : ℕ) → OrNone f w → RecordFits f (leafRecord (cutOf (r .piece) w .first)) × RecordFits f (leafRecord (cutOf (r .piece) w .second))
 unfolding cutOf
-children-fit r f w h = (child-fits r f w _ h, child-fits r f w _ h)
+children-fit f r u w h = (child-fits f r u w _ h, child-fits f r u w _ h)
 
 -- The midpoint: half the sum of two places is a place.
-pub midpoint-fits : (vertexAt : ℕ → Vertex) (ends : Ends) → VertexFits (vertexAt (ends .lower)) → VertexFits (vertexAt (ends .higher)) →
-    OrNone (ends .lower) → OrNone (ends .higher) → VertexFits (midpointOf vertexAt ends)
+pub midpoint-fits : (f : Format) (vertexAt : ℕ → Vertex) (ends : Ends) → VertexFits f (vertexAt (ends .lower)) → VertexFits f (vertexAt (ends .higher)) →
+    OrNone f (ends .lower) → OrNone f (ends .higher) → VertexFits f (midpointOf vertexAt ends)
 unfolding midpointOf halfwayOf
-midpoint-fits vertexAt ends a b lower higher =
+midpoint-fits f vertexAt ends a b lower higher =
     let ax = a .x in
     let ay = a .y in
     let az = a .z in

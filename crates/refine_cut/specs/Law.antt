@@ -31,14 +31,14 @@ pub record Ready (l : Layout) (s : Slices) (n : ℕ) : Type 0 where
   pub grown-bytes : Bytes (s .grown)
   pub vertex-room : s .header .vertices < l .vertices .end
   pub record-room : s .header .records + 1 < l .records .end
-  pub few-vertices : l .vertices .end ≤ storedNone
-  pub few-records : l .records .end ≤ storedNone
+  pub few-vertices : l .vertices .end ≤ storedNone (l .format)
+  pub few-records : l .records .end ≤ storedNone (l .format)
   pub there : n < s .header .records
 
 -- ---- one record written
 
 module _ (l : Layout) (s : Slices) (h : Holds l (s .base) (s .grown)) (i : ℕ) (r : Record) where
-  put-records : RecordFits r → i < l .records .end → recordIn l (recordPut l s i r .base) (recordPut l s i r .grown) ≡ putAt i r (recordIn l (s .base) (s .grown))
+  put-records : RecordFits (l .format) r → i < l .records .end → recordIn l (recordPut l s i r .base) (recordPut l s i r .grown) ≡ putAt i r (recordIn l (s .base) (s .grown))
   unfolding recordPut
   put-records f e = record-put l (s .base) (s .grown) h i r f e
 
@@ -50,19 +50,19 @@ module _ (l : Layout) (s : Slices) (h : Holds l (s .base) (s .grown)) (i : ℕ) 
   unfolding recordPut
   put-holds = record-put-holds l (s .base) (s .grown) h i r
 
-module _ (l : Layout) (s : Slices) (i : ℕ) (r : Record) (f : RecordFits r) where
+module _ (l : Layout) (s : Slices) (i : ℕ) (r : Record) (f : RecordFits (l .format) r) where
   put-base-bytes : Bytes (s .base) → Bytes (recordPut l s i r .base)
   unfolding recordPut
-  put-base-bytes b = into-base-bytes (l .format .«record_width») (l .records) (s .base) i (recordBytes r) b (record-is-bytes r f)
+  put-base-bytes b = into-base-bytes (l .records) (s .base) i (recordBytes (l .format) r) b (record-is-bytes (l .format) r f)
 
   put-growth-bytes : Bytes (s .grown) → Bytes (recordPut l s i r .grown)
   unfolding recordPut
-  put-growth-bytes b = into-growth-bytes (l .format .«record_width») (l .records) (s .grown) i (recordBytes r) b (record-is-bytes r f)
+  put-growth-bytes b = into-growth-bytes (l .records) (s .grown) i (recordBytes (l .format) r) b (record-is-bytes (l .format) r f)
 
 -- ---- the two children
 
-module _ (l : Layout) (s : Slices) (h : Holds l (s .base) (s .grown)) (n w : ℕ) (f : RecordFits (recordIn l (s .base) (s .grown) n)) (small : OrNone w)
-    (room : s .header .records + 1 < l .records .end) (few : l .records .end ≤ storedNone) (there : n < s .header .records) where
+module _ (l : Layout) (s : Slices) (h : Holds l (s .base) (s .grown)) (n w : ℕ) (f : RecordFits (l .format) (recordIn l (s .base) (s .grown) n)) (small : OrNone (l .format) w)
+    (room : s .header .records + 1 < l .records .end) (few : l .records .end ≤ storedNone (l .format)) (there : n < s .header .records) where
   abbrev r : Record
   r = recordIn l (s .base) (s .grown) n
 
@@ -87,11 +87,11 @@ module _ (l : Layout) (s : Slices) (h : Holds l (s .base) (s .grown)) (n w : ℕ
   two-records : recordIn l (two .base) (two .grown) ≡ withChildren (tablesIn l s) n w .recordAt
   unfolding withChildren
   two-records =
-      put-records l one one-holds (first + 1) (leafRecord (cutOf (r .piece) w .second)) (children-fit r f w small .1) room
+      put-records l one one-holds (first + 1) (leafRecord (cutOf (r .piece) w .second)) (children-fit (l .format) r f w small .1) room
       ∙ ap (putAt (first + 1) (leafRecord (cutOf (r .piece) w .second)))
-      (put-records l cut cut-holds first (leafRecord (cutOf (r .piece) w .first)) (children-fit r f w small .0) (omega arith)
+      (put-records l cut cut-holds first (leafRecord (cutOf (r .piece) w .first)) (children-fit (l .format) r f w small .0) (omega arith)
       ∙ ap (putAt first (leafRecord (cutOf (r .piece) w .first)))
-      (put-records l s h n (cutRecord (r .piece) first) (cut-record-fits r first f (inr (omega arith))) (omega arith)))
+      (put-records l s h n (cutRecord (r .piece) first) (cut-record-fits (l .format) r first f (inr (omega arith))) (omega arith)))
 
   two-vertices : vertexIn l (two .base) (two .grown) ≡ vertexIn l (s .base) (s .grown)
   two-vertices =
@@ -110,9 +110,9 @@ module _ (l : Layout) (s : Slices) (h : Holds l (s .base) (s .grown)) (n w : ℕ
   children-bytes : Bytes (s .base) × Bytes (s .grown) → Bytes (childrenPut l s n r w .base) × Bytes (childrenPut l s n r w .grown)
   unfolding childrenPut
   children-bytes b =
-      let fc = cut-record-fits r first f (inr (omega arith)) in
-      let fo = children-fit r f w small .0 in
-      let ft = children-fit r f w small .1 in (
+      let fc = cut-record-fits (l .format) r first f (inr (omega arith)) in
+      let fo = children-fit (l .format) r f w small .0 in
+      let ft = children-fit (l .format) r f w small .1 in (
         put-base-bytes l one (first + 1) (leafRecord (cutOf (r .piece) w .second)) ft (put-base-bytes l cut first (leafRecord (cutOf (r .piece) w .first)) fo (put-base-bytes l s n (cutRecord (r .piece) first) fc (b .0))),
         put-growth-bytes l one (first + 1) (leafRecord (cutOf (r .piece) w .second)) ft (put-growth-bytes l cut first (leafRecord (cutOf (r .piece) w .first)) fo (put-growth-bytes l s n (cutRecord (r .piece) first) fc (b .1))),
       )
@@ -127,7 +127,7 @@ record Midway (l : Layout) (s t : Slices) (ends : Ends) : Type 0 where
   counted : t .header .records ≡ s .header .records
   bytes : Bytes (s .base) × Bytes (s .grown) → Bytes (t .base) × Bytes (t .grown)
 
-module _ (l : Layout) (s : Slices) (h : Holds l (s .base) (s .grown)) (ends : Ends) (f : VertexFits (midpointOf (vertexIn l (s .base) (s .grown)) ends))
+module _ (l : Layout) (s : Slices) (h : Holds l (s .base) (s .grown)) (ends : Ends) (f : VertexFits (l .format) (midpointOf (vertexIn l (s .base) (s .grown)) ends))
     (room : s .header .vertices < l .vertices .end) where
   midway : Midway l s (midpointPut l s ends (vertexWith (tablesIn l s) ends)) ends
   unfolding midpointPut withMidpoint vertexPut
@@ -158,8 +158,8 @@ module _ (l : Layout) (s : Slices) (h : Holds l (s .base) (s .grown)) (ends : En
 
       more-bytes : Bytes (s .base) × Bytes (s .grown) → Bytes (more .base) × Bytes (more .grown)
       more-bytes b = (
-        into-base-bytes (l .format .«vertex_width») (l .vertices) (s .base) (s .header .vertices) (vertexBytes v) (b .0) (vertex-is-bytes v),
-        into-growth-bytes (l .format .«vertex_width») (l .vertices) (s .grown) (s .header .vertices) (vertexBytes v) (b .1) (vertex-is-bytes v),
+        into-base-bytes (l .vertices) (s .base) (s .header .vertices) (vertexBytes (l .format) v) (b .0) (vertex-is-bytes (l .format) v),
+        into-growth-bytes (l .vertices) (s .grown) (s .header .vertices) (vertexBytes (l .format) v) (b .1) (vertex-is-bytes (l .format) v),
       )
 
       go : (b : Bool) → (tablesIn l (cond b more s) ≡ cond b appended (tablesIn l s)) × (Holds l (cond b more s .base) (cond b more s .grown)) × (recordIn l (cond b more s .base) (cond b more s .grown) ≡ recordIn l (s .base) (s .grown)) × (cond b more s .header .records ≡ s .header .records) × (Bytes (s .base) × Bytes (s .grown) → Bytes (cond b more s .base) × Bytes (cond b more s .grown))
@@ -186,22 +186,22 @@ module _ (l : Layout) (s : Slices) (n : ℕ) (ready : Ready l s n) where
   half =
       let stored = record-fits l (s .base) (s .grown) (ready .base-bytes) (ready .grown-bytes) n in
       midway l s (ready .holds) ends-n
-      (midpoint-fits (vertexIn l (s .base) (s .grown)) ends-n
+      (midpoint-fits (l .format) (vertexIn l (s .base) (s .grown)) ends-n
       (vertex-fits l (s .base) (s .grown) (ready .base-bytes) (ready .grown-bytes) (ends-n .lower))
       (vertex-fits l (s .base) (s .grown) (ready .base-bytes) (ready .grown-bytes) (ends-n .higher))
       (stored .corners (lowerEnd (record-n .piece) (record-n .piece .edge)))
       (stored .corners (higherEnd (record-n .piece) (record-n .piece .edge))))
       (ready .vertex-room)
 
-  small : OrNone w-n
+  small : OrNone (l .format) w-n
   unfolding vertexWith
   small = inr (omega (arith, first-at-most (hasParents (tablesIn l s) ends-n) (s .header .vertices), ready .vertex-room, ready .few-vertices))
 
   same-record : recordIn l (with-midpoint .base) (with-midpoint .grown) n ≡ record-n
   same-record = λ k. half .records k n
 
-  record-is-stored : RecordFits (recordIn l (with-midpoint .base) (with-midpoint .grown) n)
-  record-is-stored = subst RecordFits (sym same-record) (record-fits l (s .base) (s .grown) (ready .base-bytes) (ready .grown-bytes) n)
+  record-is-stored : RecordFits (l .format) (recordIn l (with-midpoint .base) (with-midpoint .grown) n)
+  record-is-stored = subst (RecordFits (l .format)) (sym same-record) (record-fits l (s .base) (s .grown) (ready .base-bytes) (ready .grown-bytes) n)
 
   room-left : with-midpoint .header .records + 1 < l .records .end
   room-left = omega (arith, half .counted, ready .record-room)

@@ -31,16 +31,16 @@ unfoldable pub vertexPut : Layout → Slices → ℕ → Vertex → Slices
 vertexPut l s i v =
     record {
       header = s .header;
-      base = baseInto (l .format .«vertex_width») (l .vertices) (s .base) i (vertexBytes v);
-      grown = grownInto (l .format .«vertex_width») (l .vertices) (s .grown) i (vertexBytes v);
+      base = baseInto (l .vertices) (s .base) i (vertexBytes (l .format) v);
+      grown = grownInto (l .vertices) (s .grown) i (vertexBytes (l .format) v);
     }
 
 unfoldable pub recordPut : Layout → Slices → ℕ → Record → Slices
 recordPut l s i r =
     record {
       header = s .header;
-      base = baseInto (l .format .«record_width») (l .records) (s .base) i (recordBytes r);
-      grown = grownInto (l .format .«record_width») (l .records) (s .grown) i (recordBytes r);
+      base = baseInto (l .records) (s .base) i (recordBytes (l .format) r);
+      grown = grownInto (l .records) (s .grown) i (recordBytes (l .format) r);
     }
 
 -- With another header.

@@ -27,16 +27,16 @@ module _ (l : Layout) (h : Header) (base grown : List ℕ) (ends : Ends) (w : �
   midpoint-there ne = rw (ne-eqb w (h .vertices) ne)
 
   pub midpoint-appended : w ≡ h .vertices → (v : Vertex) → v ≡ midpointOf (vertexIn l base grown) ends → (base′ grown′ : List ℕ) →
-      base′ ≡ baseInto (l .format .«vertex_width») (l .vertices) base (h .vertices) (vertexBytes v) →
-      grown′ ≡ grownInto (l .format .«vertex_width») (l .vertices) grown (h .vertices) (vertexBytes v) →
+      base′ ≡ baseInto (l .vertices) base (h .vertices) (vertexBytes (l .format) v) →
+      grown′ ≡ grownInto (l .vertices) grown (h .vertices) (vertexBytes (l .format) v) →
       slices (oneVertexMore h) base′ grown′ ≡ midpointPut l (slices h base grown) ends w
   unfolding midpointPut vertexPut
   midpoint-appended e v is base′ grown′ b g =
       rw (eq-eqb w (h .vertices) e)
       (λ k.
       slices (oneVertexMore h)
-      ((b ∙ ap (λ (x : Vertex). baseInto (l .format .«vertex_width») (l .vertices) base (h .vertices) (vertexBytes x)) is) k)
-      ((g ∙ ap (λ (x : Vertex). grownInto (l .format .«vertex_width») (l .vertices) grown (h .vertices) (vertexBytes x)) is) k))
+      ((b ∙ ap (λ (x : Vertex). baseInto (l .vertices) base (h .vertices) (vertexBytes (l .format) x)) is) k)
+      ((g ∙ ap (λ (x : Vertex). grownInto (l .vertices) grown (h .vertices) (vertexBytes (l .format) x)) is) k))
 
   -- No record is appended with it.
   pub midpoint-records : (t : Slices) → t ≡ midpointPut l (slices h base grown) ends w → t .header .records ≡ h .records
@@ -52,16 +52,16 @@ module _ (l : Layout) (h : Header) (base grown : List ℕ) (ends : Ends) (w : �
 
 -- One record written, of slices that are s.
 pub record-written : (l : Layout) (h : Header) (s : Slices) (base grown base′ grown′ : List ℕ) (i : ℕ) (r r′ : Record) → slices h base grown ≡ s → r ≡ r′ →
-    base′ ≡ baseInto (l .format .«record_width») (l .records) base i (recordBytes r) →
-    grown′ ≡ grownInto (l .format .«record_width») (l .records) grown i (recordBytes r) →
+    base′ ≡ baseInto (l .records) base i (recordBytes (l .format) r) →
+    grown′ ≡ grownInto (l .records) grown i (recordBytes (l .format) r) →
     slices h base′ grown′ ≡ recordPut l s i r′
 unfolding recordPut
 record-written l h s base grown base′ grown′ i r r′ e is b g =
     (λ k. slices h (b k) (g k))
     ∙ (λ k. record {
       header = e k .header;
-      base = baseInto (l .format .«record_width») (l .records) (e k .base) i (recordBytes (is k));
-      grown = grownInto (l .format .«record_width») (l .records) (e k .grown) i (recordBytes (is k));
+      base = baseInto (l .records) (e k .base) i (recordBytes (l .format) (is k));
+      grown = grownInto (l .records) (e k .grown) i (recordBytes (l .format) (is k));
     })
 
 module _ (l : Layout) (h : Header) (base grown : List ℕ) (n : ℕ) (r : Record) (w : ℕ) where

@@ -1,13 +1,12 @@
 -- What refine's answer says, for every mesh, every selection and every length of the output buffer.
 use mathlib.Core.Path.{_≡_, sym, ap, _∙_}
 use mathlib.Core.Bool.{true, false}
-use mathlib.Core.List.{List}
 use Prim.Native.Nat.{ℕ, _+_, _<_}
 use lib.ListN.{replicate}
 use lib.Dec.{eqb}
 use Rattle.laws.specs.Lists.{zeroPast}
 use Rattle.laws.specs.Order.{firstBroken}
-use Rattle.stored.specs.Layout.{limits, lastRound, roundAfter, headerOf, meshBytes, rightSelectionLength, rightSelectionMark, selectionOf, namedIn}
+use Rattle.stored.specs.Layout.{lastRound, roundAfter, Stored, headerOf, meshBytes, StoredSelection, rightSelectionLength, rightSelectionMark, selectionOf, namedIn}
 use Rattle.stored.specs.Fitting.{round-rises}
 use Rattle.mesh_tables.specs.Tables.{tablesOf}
 use Rattle.check_refusals.specs.Check.{checkNumber}
@@ -17,7 +16,7 @@ use Rattle.refine_service.specs.Refine.{closed, resultOf, refineSelectionRows, 
 use Rattle.refine_service.specs.Order.{selectionNumber}
 use Rattle.refine_service.specs.Storing.{refine-selected}
 
-module _ (mesh selection : List ℕ) (room : ℕ) where
+module _ (mesh : Stored) (selection : StoredSelection) (room : ℕ) where
   -- "After a refusal the output buffer is zero throughout"
   pub refused-bytes : eqb (refineNumber mesh selection room) 0 ≡ false → refineBytes mesh selection room ≡ replicate room 0
   unfolding refineBytes
@@ -25,7 +24,7 @@ module _ (mesh selection : List ℕ) (room : ℕ) where
 
   -- "after acceptance it is zero past the result."
   pub accepted-bytes : refineNumber mesh selection room ≡ 0 →
-      refineBytes mesh selection room ≡ zeroPast room (meshBytes (resultOf (closed mesh selection)))
+      refineBytes mesh selection room ≡ zeroPast room (meshBytes (mesh .kind .format) (resultOf (closed mesh selection)))
   unfolding refineBytes
   accepted-bytes e = rw e
 
@@ -45,19 +44,19 @@ module _ (mesh selection : List ℕ) (room : ℕ) where
         sym (found ∙ refine-selected mesh selection room accepted (rw (← found)) .0)
 
 -- "The round rises by 1"; the job and the base counts stay.
-module _ (mesh selection : List ℕ) where
+module _ (mesh : Stored) (selection : StoredSelection) where
   pub job-kept : resultOf (closed mesh selection) .header .job ≡ headerOf mesh .job
   unfolding resultOf closed tablesOf
-  job-kept = job-stays limits (isNamed (selectionOf selection .count) (namedIn selection)) (tablesOf mesh)
+  job-kept = job-stays (mesh .kind .limits) (isNamed (selectionOf selection .count) (namedIn selection)) (tablesOf mesh)
 
   pub round-next : headerOf mesh .round < lastRound → resultOf (closed mesh selection) .header .round ≡ headerOf mesh .round + 1
   unfolding resultOf closed tablesOf
-  round-next l = ap roundAfter (round-stays limits (isNamed (selectionOf selection .count) (namedIn selection)) (tablesOf mesh)) ∙ round-rises (headerOf mesh .round) l
+  round-next l = ap roundAfter (round-stays (mesh .kind .limits) (isNamed (selectionOf selection .count) (namedIn selection)) (tablesOf mesh)) ∙ round-rises (headerOf mesh .round) l
 
   pub base-vertices-kept : resultOf (closed mesh selection) .header .«base_vertices» ≡ headerOf mesh .«base_vertices»
   unfolding resultOf closed tablesOf
-  base-vertices-kept = base-vertices-stay limits (isNamed (selectionOf selection .count) (namedIn selection)) (tablesOf mesh)
+  base-vertices-kept = base-vertices-stay (mesh .kind .limits) (isNamed (selectionOf selection .count) (namedIn selection)) (tablesOf mesh)
 
   pub base-records-kept : resultOf (closed mesh selection) .header .«base_records» ≡ headerOf mesh .«base_records»
   unfolding resultOf closed tablesOf
-  base-records-kept = base-records-stay limits (isNamed (selectionOf selection .count) (namedIn selection)) (tablesOf mesh)
+  base-records-kept = base-records-stay (mesh .kind .limits) (isNamed (selectionOf selection .count) (namedIn selection)) (tablesOf mesh)

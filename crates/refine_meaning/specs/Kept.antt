@@ -2,7 +2,6 @@
 use mathlib.Core.Path.{_≡_, refl, sym, ap, _∙_}
 use mathlib.Core.Bool.{Bool, true, false, not, cond, _&&_, false≢true}
 use mathlib.Core.Logic.{⊎-elim}
-use mathlib.Core.List.{List}
 use Prim.Native.Nat.{ℕ, zero, suc, _+_, _≤_, _<_}
 use native.Mathlib.Nat.{le-refl}
 use native.Mathlib.Omega.{arith}
@@ -13,7 +12,7 @@ use Rattle.laws.specs.Order.{none-broken}
 use Rattle.piece_cut.specs.Cut.{cutOf}
 use Rattle.stored.specs.declared.Limits.{Limits}
 use Rattle.stored.specs.declared.Record.{Record}
-use Rattle.stored.specs.Layout.{limits, selectionOf, namedIn}
+use Rattle.stored.specs.Layout.{Stored, StoredSelection, selectionOf, namedIn}
 use Rattle.mesh_tables.specs.Tables.{Tables, tablesOf, uncut, allVertices, allRecords, pieceAt, vertexWith, refinementEnds, hangsAt, leafHangs, hangingEdge}
 use Rattle.check_refusals.specs.Check.{rows, tableRows, checkNumber}
 use Rattle.refine_selection.specs.Selected.{namesCut, isNamed}
@@ -105,9 +104,9 @@ module _ (most : Limits) where
   refined-keeps chosen m = keeps-then m (pass most chosen m) (closing most (most .records) (pass most chosen m)) (pass-keeps chosen m) (closing-keeps (most .records) (pass most chosen m))
 
 -- "Entries already there keep their number", for every mesh and every selection.
-pub closed-keeps : (mesh selection : List ℕ) → Keeps (tablesOf mesh) (closed mesh selection)
+pub closed-keeps : (mesh : Stored) (selection : StoredSelection) → Keeps (tablesOf mesh) (closed mesh selection)
 unfolding closed
-closed-keeps mesh selection = refined-keeps limits (isNamed (selectionOf selection .count) (namedIn selection)) (tablesOf mesh)
+closed-keeps mesh selection = refined-keeps (mesh .kind .limits) (isNamed (selectionOf selection .count) (namedIn selection)) (tablesOf mesh)
 
 -- ---- a record that is cut stays cut
 
@@ -147,14 +146,15 @@ module _ (most : Limits) where
       go false t u e = refl
 
 -- "Records already there": one that is cut stays as it is, whatever is selected, unless a cut record is named, which gets 16.
-pub cut-stays : (mesh selection : List ℕ) (k : ℕ) → k < allRecords (tablesOf mesh) → uncut (tablesOf mesh .recordAt k) ≡ false →
+pub cut-stays : (mesh : Stored) (selection : StoredSelection) (k : ℕ) → k < allRecords (tablesOf mesh) → uncut (tablesOf mesh .recordAt k) ≡ false →
     namesCut (tablesOf mesh .recordAt) (selectionOf selection .count) (namedIn selection) ≡ false → closed mesh selection .recordAt k ≡ tablesOf mesh .recordAt k
 unfolding closed refined namesCut isNamed
 cut-stays mesh selection k l cut right =
     let m : Tables = tablesOf mesh in
     let chosen : ℕ → Bool = isNamed (selectionOf selection .count) (namedIn selection) in
-    let same : pass limits chosen m .recordAt k ≡ m .recordAt k = pass-cut limits chosen m k l not-named in
-    closing-cut limits (limits .records) (pass limits chosen m) k (omega (arith, pass-keeps limits chosen m .records)) (ap uncut same ∙ cut) ∙ same
+    let most : Limits = mesh .kind .limits in
+    let same : pass most chosen m .recordAt k ≡ m .recordAt k = pass-cut most chosen m k l not-named in
+    closing-cut most (most .records) (pass most chosen m) k (omega (arith, pass-keeps most chosen m .records)) (ap uncut same ∙ cut) ∙ same
   where
     not-named : anyBelow (selectionOf selection .count) (λ i. eqb (namedIn selection i) k) ≡ false
     not-named =
@@ -178,18 +178,19 @@ closing-over most zero m e = refl
 closing-over most (suc passes) m e = rw e
 
 -- In a mesh that check accepts nothing hangs.
-nothing-hangs : (s : List ℕ) → checkNumber s ≡ 0 → hangingEdge (tablesOf s) ≡ false
+nothing-hangs : (s : Stored) → checkNumber s ≡ 0 → hangingEdge (tablesOf s) ≡ false
 unfolding checkNumber rows tableRows
 nothing-hangs s e = none-broken (rows s) refl e 10
 
 -- "an empty selection is a round": the tables are those of the mesh, so that the round alone is another.
-pub empty-changes-nothing : (mesh selection : List ℕ) → checkNumber mesh ≡ 0 → selectionOf selection .count ≡ 0 → closed mesh selection ≡ tablesOf mesh
+pub empty-changes-nothing : (mesh : Stored) (selection : StoredSelection) → checkNumber mesh ≡ 0 → selectionOf selection .count ≡ 0 → closed mesh selection ≡ tablesOf mesh
 unfolding closed refined pass isNamed
 empty-changes-nothing mesh selection accepted empty =
     let m : Tables = tablesOf mesh in
     let chosen : ℕ → Bool = isNamed (selectionOf selection .count) (namedIn selection) in
-    ap (closing limits (limits .records)) (nothing-cut limits chosen (none-named (selectionOf selection .count) (namedIn selection) empty) (allRecords m) m)
-    ∙ closing-over limits (limits .records) m (nothing-hangs mesh accepted)
+    let most : Limits = mesh .kind .limits in
+    ap (closing most (most .records)) (nothing-cut most chosen (none-named (selectionOf selection .count) (namedIn selection) empty) (allRecords m) m)
+    ∙ closing-over most (most .records) m (nothing-hangs mesh accepted)
   where
     named-none : (named : ℕ → ℕ) (k : ℕ) → isNamed 0 named k ≡ false
     named-none named k = any-none (λ i. eqb (named i) k)

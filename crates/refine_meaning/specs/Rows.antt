@@ -17,7 +17,7 @@ use Rattle.grid_volume.specs.Volume.{minorOf, determinantOf, differenceOf, diff
 use Rattle.grid_inside.specs.Inside.{liesIn}
 use Rattle.stored.specs.declared.Vertex.{Vertex}
 use Rattle.stored.specs.declared.Record.{Record}
-use Rattle.stored.specs.Layout.{none, marked, markBytes, rightMark, rightLength, headerOf, headerBytes, orNone, storedOrNone, heldIn, vertexIn, vertexFrom, vertexBytes, recordIn, recordFrom, recordBytes, meshBytes, rightSelectionMark, rightSelectionLength, selectionOf, selectionBytes, namedIn}
+use Rattle.stored.specs.Layout.{version1, none, marked, markBytes, rightMark, rightLength, headerFrom, headerBytes, orNone, storedOrNone, heldIn, vertexIn, vertexFrom, vertexBytes, recordIn, recordFrom, recordBytes, laidOut, meshBytes, rightSelectionMark, rightSelectionLength, selectionOf, selectionBytes, namedIn}
 use Rattle.mesh_tables.specs.Tables.{tablesOf, hasParents, vertexWith, hangs, sixfoldAt, hangsAt, leafHangs, hangingEdge}
 use Rattle.check_refusals.specs.Refusals.{wrongLength, wrongMark, wrongCounts, badVertices, badVertex, badBaseVertex, placeTwice, badMadeVertex, pairTwice, badBaseRecords, badBaseRecord, badPiece, badCorners, leftHandedRecords, leftHandedRecord, equalCorners, cornerNotInBase, badBaseMarks, badMarks, badBaseFaces, badFaces, badWith, badTogether, faceInThree, faceBefore, hasFace, sameFace, faceWithin, faceHas, sameCorners, cornersWithin, hasCorner, twoMarks, twoMarksOn, sameMark, sameEnds, unusedVertices, unusedVertex, hangingVertices, vertexHangs, hangsOn, badCuts, badRecord, badCut, badChildren, isChildOf, notChildOfOne, tooDeep, isMidpointOf, noMidpoint}
 use Rattle.laws.specs.Order.{firstBroken}
@@ -45,10 +45,10 @@ abbrev entry : List ℕ → ℕ → List ℕ → ℕ → ℕ → ℕ → Record
 entry corners edge marks flag generation first =
     record { piece = record { corners = corners; edge = edge; marks = marks; flag = flag; generation = generation; material = 0 }; «first_child» = first }
 
--- The mesh of this round with these vertices and records, of which the first four and the first are base.
-abbrev storedAs : ℕ → List Vertex → List Record → List ℕ
-storedAs round vertices records =
-    meshBytes
+-- The bytes of version 1 of the mesh of this round with these vertices and records, of which the first four and the first are base.
+abbrev meshWith : ℕ → List Vertex → List Record → List ℕ
+meshWith round vertices records =
+    meshBytes version1
     (record {
       header = record { job = 7; round = round; «base_vertices» = 4; vertices = length vertices; «base_records» = 1; records = length records };
       vertices = vertices;
@@ -65,7 +65,7 @@ K-record first = entry K-corners 2 (4 ∷ 2 ∷ 2 ∷ 1 ∷ []) 0 0 first
 
 -- K as build stores it, but of this round.
 abbrev pub K-of : ℕ → List ℕ
-K-of round = storedAs round K-vertices (K-record none ∷ [])
+K-of round = meshWith round K-vertices (K-record none ∷ [])
 
 -- K as build stores it: "The round 0."
 abbrev pub K : List ℕ
@@ -83,12 +83,12 @@ abbrev K-record-2 : ℕ → Record
 K-record-2 first = entry (4 ∷ 1 ∷ 2 ∷ 3 ∷ []) 4 (4 ∷ 5 ∷ 4 ∷ 3 ∷ []) 0 1 first
 
 abbrev pub K-cut : List ℕ
-K-cut = storedAs 1 K-cut-vertices (K-record 1 ∷ K-record-1 none ∷ K-record-2 none ∷ [])
+K-cut = meshWith 1 K-cut-vertices (K-record 1 ∷ K-record-1 none ∷ K-record-2 none ∷ [])
 
 -- And with 1 and 2 cut then.
 abbrev pub K-four : List ℕ
 K-four =
-    storedAs 2
+    meshWith 2
     (K-cut-vertices ++ vertex 32800 32800 32768 0 2 ∷ vertex 32832 32800 32800 1 3 ∷ [])
     (K-record 1
     ∷ K-record-1 3
@@ -101,9 +101,9 @@ K-four =
 
 -- A selection of this job and round that names these records.
 abbrev pub selecting : ℕ → ℕ → ℕ → List ℕ → List ℕ
-selecting job round count named = selectionBytes (record { job = job; round = round; count = count }) named
+selecting job round count named = selectionBytes version1 (record { job = job; round = round; count = count }) named
 
 -- What refine's answers compute with, named in one place: to unfold this is to unfold them all.
 unfoldable pub computed : Bool
-unfolding leaves foldBelow allBelow anyBelow countBelow sumBelow firstBelow listBelow joined number numberBytes lowSlot highSlot hasSlot otherEnd joins edgeBetween onFace opposite oppositeOn shares sharedSlot slotA slotB slotC slotD edgeCD otherMarksAre typeP setP unsetP markFits lowerEnd higherEnd endsOf sameSlot sameSlots samePiece newMark childFlag childMark childShape childOf cutOf coordinate coordinateOnGrid onGrid samePlace isHalfway halfwayOf minorOf determinantOf differenceOf differencesOf sixfoldOf marked markBytes rightMark rightLength headerOf headerBytes orNone storedOrNone heldIn vertexIn vertexFrom vertexBytes recordIn recordFrom recordBytes meshBytes rightSelectionMark rightSelectionLength selectionOf selectionBytes namedIn tablesOf hasParents vertexWith hangs sixfoldAt wrongLength wrongMark wrongCounts badVertices badVertex badBaseVertex placeTwice badMadeVertex pairTwice badBaseRecords badBaseRecord badPiece badCorners leftHandedRecords leftHandedRecord leftHanded equalCorners cornerNotInBase badBaseMarks badMarks badBaseFaces badFaces badWith badTogether faceInThree faceBefore hasFace sameFace faceWithin faceHas sameCorners cornersWithin hasCorner twoMarks twoMarksOn sameMark sameEnds unusedVertices unusedVertex hangingVertices vertexHangs hangsOn liesIn badCuts badRecord badCut badChildren isChildOf notChildOfOne tooDeep isMidpointOf noMidpoint hangsAt leafHangs hangingEdge tableRows rows firstBroken wrongSelectionLength wrongSelectionMark anotherJob anotherRound badNumber badNumbers selectionRows namesCut namesLast roundRow isNamed midpointOf withMidpoint withChildren cutAt exceeds turn passBelow pass closing refined closed resultOf refineSelectionRows resultRows refineNumber refineBytes
+unfolding leaves foldBelow allBelow anyBelow countBelow sumBelow firstBelow listBelow joined number numberBytes lowSlot highSlot hasSlot otherEnd joins edgeBetween onFace opposite oppositeOn shares sharedSlot slotA slotB slotC slotD edgeCD otherMarksAre typeP setP unsetP markFits lowerEnd higherEnd endsOf sameSlot sameSlots samePiece newMark childFlag childMark childShape childOf cutOf coordinate coordinateOnGrid onGrid samePlace isHalfway halfwayOf minorOf determinantOf differenceOf differencesOf sixfoldOf marked markBytes rightMark rightLength headerFrom headerBytes orNone storedOrNone heldIn vertexIn vertexFrom vertexBytes recordIn recordFrom recordBytes laidOut rightSelectionMark rightSelectionLength selectionOf selectionBytes namedIn tablesOf hasParents vertexWith hangs sixfoldAt wrongLength wrongMark wrongCounts badVertices badVertex badBaseVertex placeTwice badMadeVertex pairTwice badBaseRecords badBaseRecord badPiece badCorners leftHandedRecords leftHandedRecord leftHanded equalCorners cornerNotInBase badBaseMarks badMarks badBaseFaces badFaces badWith badTogether faceInThree faceBefore hasFace sameFace faceWithin faceHas sameCorners cornersWithin hasCorner twoMarks twoMarksOn sameMark sameEnds unusedVertices unusedVertex hangingVertices vertexHangs hangsOn liesIn badCuts badRecord badCut badChildren isChildOf notChildOfOne tooDeep isMidpointOf noMidpoint hangsAt leafHangs hangingEdge tableRows rows firstBroken wrongSelectionLength wrongSelectionMark anotherJob anotherRound badNumber badNumbers selectionRows namesCut namesLast roundRow isNamed midpointOf withMidpoint withChildren cutAt exceeds turn passBelow pass closing refined closed resultOf refineSelectionRows resultRows refineNumber refineBytes
 computed = true

@@ -16,7 +16,7 @@ use Rattle.laws.specs.Links.{countedAt}
 use Rattle.laws.specs.Counts.{countsBelow, marked, counts-marked, key-marking}
 use Rattle.stored.specs.declared.Limits.{Limits}
 use Rattle.stored.specs.declared.Layout.{Layout}
-use Rattle.stored.specs.Layout.{namedIn}
+use Rattle.stored.specs.Layout.{StoredSelection, namedIn}
 use Rattle.refine_selection.specs.Selected.{isNamed}
 use Rattle.refine_cut.specs.Slices.{Slices}
 use Rattle.refine_pass.specs.Puts.{passPut}
@@ -25,16 +25,16 @@ use Rattle.refine_pass.specs.Steps.{pass-same}
 -- ---- what the selection names
 
 -- The table of a selection's first `count` numbers, with so many places.
-abbrev pub tableOf : ℕ → List ℕ → ℕ → List ℕ
+abbrev pub tableOf : ℕ → StoredSelection → ℕ → List ℕ
 tableOf places selection count = countsBelow (λ t i. countedAt t (namedIn selection i)) (replicate places 0) count
 
 -- What it says of a record that has a place.
-pub named-is : (places : ℕ) (selection : List ℕ) (count : ℕ) (named : List ℕ) → named ≡ tableOf places selection count → (n : ℕ) → n < places → marked named n ≡ isNamed count (namedIn selection) n
+pub named-is : (places : ℕ) (selection : StoredSelection) (count : ℕ) (named : List ℕ) → named ≡ tableOf places selection count → (n : ℕ) → n < places → marked named n ≡ isNamed count (namedIn selection) n
 unfolding isNamed
 named-is places selection count named is n l = ap (λ (t : List ℕ). marked t n) is ∙ counts-marked (λ t i. countedAt t (namedIn selection i)) (λ i x. eqb (namedIn selection i) x) (key-marking (namedIn selection)) places count n l
 
 -- So pass one by the table is pass one.
-pub named-pass : (most : Limits) (l : Layout) (places : ℕ) (selection : List ℕ) (count : ℕ) (named : List ℕ) → named ≡ tableOf places selection count → (s t : Slices) → s .header .records ≤ places →
+pub named-pass : (most : Limits) (l : Layout) (places : ℕ) (selection : StoredSelection) (count : ℕ) (named : List ℕ) → named ≡ tableOf places selection count → (s t : Slices) → s .header .records ≤ places →
     t ≡ passPut most l (marked named) s → t ≡ passPut most l (isNamed count (namedIn selection)) s
 named-pass most l places selection count named is s t few by =
     pass-same most l (marked named) (isNamed count (namedIn selection)) s t (λ k b. named-is places selection count named is k (omega arith)) by

@@ -12,10 +12,12 @@ use Rattle.laws.specs.Below.{or-left-false, or-right-false, putAt, put-other}
 use Rattle.laws.specs.Lists.{Bytes}
 use Rattle.piece.specs.declared.Ends.{Ends}
 use Rattle.stored.specs.declared.Limits.{Limits}
+use Rattle.stored.specs.declared.Kind.{Kind}
 use Rattle.stored.specs.declared.Layout.{Layout}
 use Rattle.stored.specs.declared.Header.{Header}
 use Rattle.stored.specs.declared.Record.{Record}
-use Rattle.stored.specs.Layout.{storedNone, vertexWidth, recordWidth, limits}
+use Rattle.stored.specs.Fitting.{reached}
+use Rattle.stored.specs.Layout.{numbersReach, storedNone, vertexWidth, recordWidth}
 use Rattle.stored.specs.Tables.{Holds, working-holds}
 use Rattle.mesh_tables.specs.Tables.{Tables, allVertices, allRecords, pieceAt, vertexWith, refinementEnds, leafHangs, hangingEdge}
 use Rattle.piece_cut.specs.Cut.{cutOf}
@@ -107,8 +109,8 @@ pub record Working (most : Limits) (l : Layout) (s : Slices) : Type 0 where
   pub bytes : Bytes (s .base) × Bytes (s .grown)
   pub vertices : l .vertices .end ≡ most .vertices + 1
   pub records : l .records .end ≡ most .records + 2
-  pub few-vertices : most .vertices < storedNone
-  pub few-records : most .records + 2 ≤ storedNone
+  pub few-vertices : most .vertices < storedNone (l .format)
+  pub few-records : most .records + 2 ≤ storedNone (l .format)
 
 -- What does not exceed the limits.
 pub within : (most : Limits) (h : Header) → exceeds most h ≡ false → (h .vertices ≤ most .vertices) × (h .records ≤ most .records)
@@ -124,15 +126,15 @@ unfolding exceeds
 not-exceeds most h v r = rw (le-ltb (most .vertices) (h .vertices) v, le-ltb (most .records) (h .records) r)
 
 -- Slices that are long enough hold tables to work on.
-pub can-begin : (s : Slices) → vertexWidth * (limits .vertices + 1) ≤ length (s .base) → recordWidth * (limits .records + 2) ≤ length (s .grown) → Bytes (s .base) × Bytes (s .grown) → Working limits work s
-can-begin s long deep bytes =
+pub can-begin : (k : Kind) → numbersReach k ≡ true → (s : Slices) → vertexWidth (k .format) * (k .limits .vertices + 1) ≤ length (s .base) → recordWidth (k .format) * (k .limits .records + 2) ≤ length (s .grown) → Bytes (s .base) × Bytes (s .grown) → Working (k .limits) (work k) s
+can-begin k reach s long deep bytes =
     record {
-      holds = working-holds (limits .vertices + 1) (limits .records + 2) (s .base) (s .grown) long deep;
+      holds = working-holds (k .format) (k .limits .vertices + 1) (k .limits .records + 2) (s .base) (s .grown) long deep;
       bytes = bytes;
       vertices = refl;
       records = refl;
-      few-vertices = omega arith;
-      few-records = omega arith;
+      few-vertices = omega (arith, reached k reach .0);
+      few-records = omega (arith, reached k reach .1);
     }
 
 -- The tables of t are m, and t is still to be worked on.

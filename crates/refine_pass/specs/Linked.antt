@@ -1,6 +1,6 @@
 -- The links of the vertices' parent pairs, kept along with the passes: a vertex that a cut appends is put into them, so that they stay those of all vertices.
-use mathlib.Core.Path.{_≡_, refl, sym, ap, _∙_, subst, subst₂}
-use mathlib.Core.Bool.{Bool, false}
+use mathlib.Core.Path.{_≡_, refl, sym, ap, _∙_, subst}
+use mathlib.Core.Bool.{Bool, true, false}
 use mathlib.Core.Logic.{_⊎_, inl, inr, ⊎-elim}
 use mathlib.Core.List.{List}
 use Prim.Native.Nat.{ℕ, suc, _+_, _*_, _≤_, _<_}
@@ -11,8 +11,9 @@ use Rattle.laws.specs.Lists.{Bytes}
 use Rattle.laws.specs.Links.{greatest, Chain, linksOf, pushed, pushed-heads-long, chain-pushed, short, Roomy, roomy, firstAlong}
 use Rattle.piece.specs.declared.Ends.{Ends}
 use Rattle.stored.specs.declared.Limits.{Limits}
+use Rattle.stored.specs.declared.Kind.{Kind}
 use Rattle.stored.specs.declared.Layout.{Layout}
-use Rattle.stored.specs.Layout.{vertexWidth, recordWidth, limits, working, recordIn}
+use Rattle.stored.specs.Layout.{numbersReach, vertexWidth, recordWidth, recordIn}
 use Rattle.mesh_tables.specs.Tables.{Tables, allVertices, hasParents, vertexWith, refinementEnds}
 use Rattle.mesh_parents.specs.Pairs.{pairKey, keyOf, pairLinks, pairs-nexts-long, pairs-same, Linked, cleared, all-linked, vertex-with-is}
 use Rattle.refine_cut.specs.Cut.{cutAt}
@@ -23,11 +24,12 @@ use Rattle.refine_pass.specs.Puts.{refinedPut, work, tooShort, refinedWi
 use Rattle.refine_pass.specs.Steps.{cut-header, refined-within, long-enough}
 use Rattle.refine_pass.specs.Law.{Working, within, can-begin, ready, cut-working, cut-vertices-stay}
 
--- What the passes work on: the tables, and the links of all their vertices, which have room for one vertex more than there may be.
+-- What the passes work on: the tables, and the links of all their vertices, which have room for one vertex more than there may be, and whose entries hold its number.
 pub record AtWork (most : Limits) (l : Layout) (s : Slices) (heads nexts : List ℕ) : Type 0 where
   pub working : Working most l s
   pub linked : Linked (tablesIn l s) heads nexts
   pub room : most .vertices < length nexts
+  pub small : most .vertices < greatest
 
 -- The vertices up to `was` are linked, and there may be one more, which has room.
 pub record Linking (m : Tables) (was : ℕ) (heads nexts : List ℕ) : Type 0 where
@@ -87,7 +89,7 @@ module _ (most : Limits) (l : Layout) (s : Slices) (heads nexts : List ℕ) (k :
         keys = k .linked .keys;
         one-more = subst (λ (x : Slices). (x .header .vertices ≡ s .header .vertices) ⊎ (x .header .vertices ≡ suc (s .header .vertices))) (sym is) one-more;
         room = omega (arith, k .room);
-        small = omega (arith, k .working .few-vertices);
+        small = omega (arith, k .small);
       }
 
   -- And with the vertex that it appended, if it did, those of all vertices.
@@ -97,42 +99,37 @@ module _ (most : Limits) (l : Layout) (s : Slices) (heads nexts : List ℕ) (k :
         working = subst (Working most l) (sym is) (cut-working most l s n (k .working) few there);
         linked = linked;
         room = omega (arith, k .room);
+        small = k .small;
       }
 
 -- ---- all passes, for every input
 
--- With version 1's limits, in slices that have the tables to work on, and with lists that are long enough.
-module _ (most : Limits) (l : Layout) (few : most ≡ limits) (laid : l ≡ working (most .vertices + 1) (most .records + 2)) (s : Slices) (small : exceeds most (s .header) ≡ false)
-    (long : vertexWidth * (limits .vertices + 1) ≤ length (s .base)) (deep : recordWidth * (limits .records + 2) ≤ length (s .grown))
-    (heads nexts table : List ℕ) (linkable : short heads nexts (most .vertices + 1) ≡ false) (places : most .records ≤ length table) where
-  to-work : l ≡ work
-  to-work = laid ∙ (λ i. working (few i .vertices + 1) (few i .records + 2))
-
-  room : Roomy heads nexts (most .vertices + 1)
-  room = roomy heads nexts (most .vertices + 1) linkable
+-- In slices that have the tables to work on, and with lists that are long enough.
+module _ (k : Kind) (reach : numbersReach k ≡ true) (l : Layout) (laid : l ≡ work k) (s : Slices) (small : exceeds (k .limits) (s .header) ≡ false)
+    (long : vertexWidth (k .format) * (k .limits .vertices + 1) ≤ length (s .base)) (deep : recordWidth (k .format) * (k .limits .records + 2) ≤ length (s .grown))
+    (heads nexts table : List ℕ) (linkable : short heads nexts (k .limits .vertices + 1) ≡ false) (places : k .limits .records ≤ length table) where
+  room : Roomy heads nexts (k .limits .vertices + 1)
+  room = roomy heads nexts (k .limits .vertices + 1) linkable
 
   -- Empty links, filled with all vertices. The records all have a place in the table, also those to come.
   pub passes-begin : Bytes (s .base) × Bytes (s .grown) → (heads′ nexts′ : List ℕ) →
       heads′ ≡ pairLinks (tablesIn l s) (cleared heads nexts) (s .header .vertices) .heads → nexts′ ≡ pairLinks (tablesIn l s) (cleared heads nexts) (s .header .vertices) .nexts →
-      AtWork most l s heads′ nexts′ × ((s .header .records ≤ length table) × (most .records ≤ length table))
+      AtWork (k .limits) l s heads′ nexts′ × ((s .header .records ≤ length table) × (k .limits .records ≤ length table))
   passes-begin bytes heads′ nexts′ h n =
-      let (v, r) = within most (s .header) small in
+      let (v, r) = within (k .limits) (s .header) small in
       let filled = pairs-nexts-long (tablesIn l s) (cleared heads nexts) (s .header .vertices) in
       let all : Roomy heads nexts (s .header .vertices) = record { keys = room .keys; places = omega (arith, room .places); fits = omega (arith, room .fits) } in (
         record {
-          working = subst₂ Here (sym few) (sym to-work) (can-begin s long deep bytes);
+          working = subst (λ (x : Layout). Working (k .limits) x s) (sym laid) (can-begin k reach s long deep bytes);
           linked = all-linked (tablesIn l s) heads nexts all heads′ nexts′ h n;
           room = omega (arith, ap length n, room .places);
+          small = omega (arith, room .fits);
         },
         (omega arith, places),
       )
-    where
-      Here : Limits → Layout → Type 0
-      Here x y = Working x y s
 
-  pub passes-end : (chosen : ℕ → Bool) (t : Slices) → t ≡ refinedPut most l chosen s → t ≡ refinedWithin (tooShort heads nexts table) chosen s
+  pub passes-end : (chosen : ℕ → Bool) (t : Slices) → t ≡ refinedPut (k .limits) l chosen s → t ≡ refinedWithin k (tooShort (k .limits) heads nexts table) chosen s
   passes-end chosen t is =
-      let enough = long-enough heads nexts table (subst (λ (x : Limits). Roomy heads nexts (x .vertices + 1)) few room) (subst (λ (x : Limits). x .records ≤ length table) few places) in
       is
-      ∙ (λ i. refinedPut (few i) (to-work i) chosen s)
-      ∙ sym (refined-within (tooShort heads nexts table) chosen s enough (sym (ap (λ (x : Limits). exceeds x (s .header)) few) ∙ small) long deep)
+      ∙ ap (λ (x : Layout). refinedPut (k .limits) x chosen s) laid
+      ∙ sym (refined-within k (tooShort (k .limits) heads nexts table) chosen s reach (long-enough (k .limits) heads nexts table room places) small long deep)

@@ -6,8 +6,9 @@ use lib.ListN.{length}
 use lib.Dec.{leb, ltb}
 use Rattle.laws.specs.Links.{short}
 use Rattle.stored.specs.declared.Limits.{Limits}
+use Rattle.stored.specs.declared.Kind.{Kind}
 use Rattle.stored.specs.declared.Layout.{Layout}
-use Rattle.stored.specs.Layout.{vertexWidth, recordWidth, limits, working}
+use Rattle.stored.specs.Layout.{vertexWidth, recordWidth, working, numbersReach}
 use Rattle.mesh_tables.specs.Tables.{leafHangs, hangingEdge}
 use Rattle.refine_cut.specs.Slices.{Slices, tablesIn, cutPut}
 use Rattle.refine_pass.specs.Passes.{exceeds}
@@ -39,19 +40,20 @@ refinedPut most l chosen s = closingPut most l (most .records) (passPut most l c
 -- ---- for every input
 
 -- Tables to work on: room for one vertex and two records more than there may be.
-abbrev pub work : Layout
-work = working (limits .vertices + 1) (limits .records + 2)
+abbrev pub work : Kind → Layout
+work k = working (k .format) (k .limits .vertices + 1) (k .limits .records + 2)
 
--- The slices have that room, and there are no more vertices and records than there may be.
-unfoldable pub canWork : Slices → Bool
-canWork s =
-    not (exceeds limits (s .header))
-    && (leb (vertexWidth * (limits .vertices + 1)) (length (s .base)) && leb (recordWidth * (limits .records + 2)) (length (s .grown)))
+-- The kind's numbers reach that far, the slices have that room, and there are no more vertices and records than there may be.
+unfoldable pub canWork : Kind → Slices → Bool
+canWork k s =
+    numbersReach k
+    && (not (exceeds (k .limits) (s .header))
+    && (leb (vertexWidth (k .format) * (k .limits .vertices + 1)) (length (s .base)) && leb (recordWidth (k .format) * (k .limits .records + 2)) (length (s .grown))))
 
 -- The lists that are lent are too short: for the links of one vertex more than there may be, or for a place for each possible record.
-unfoldable pub tooShort : List ℕ → List ℕ → List ℕ → Bool
-tooShort heads nexts table = short heads nexts (limits .vertices + 1) || ltb (length table) (limits .records)
+unfoldable pub tooShort : Limits → List ℕ → List ℕ → List ℕ → Bool
+tooShort most heads nexts table = short heads nexts (most .vertices + 1) || ltb (length table) (most .records)
 
 -- All passes, where they can be made and what is lent does not lack room; else nothing is cut.
-unfoldable pub refinedWithin : Bool → (ℕ → Bool) → Slices → Slices
-refinedWithin lacking chosen s = let all = refinedPut limits work chosen s in cond (canWork s && not lacking) all s
+unfoldable pub refinedWithin : Kind → Bool → (ℕ → Bool) → Slices → Slices
+refinedWithin k lacking chosen s = let all = refinedPut (k .limits) (work k) chosen s in cond (canWork k s && not lacking) all s

@@ -13,9 +13,10 @@ use Rattle.laws.specs.Below.{and-false, or-true}
 use Rattle.laws.specs.Links.{short, Roomy, not-short}
 use Rattle.piece.specs.declared.Ends.{Ends}
 use Rattle.stored.specs.declared.Limits.{Limits}
+use Rattle.stored.specs.declared.Kind.{Kind}
 use Rattle.stored.specs.declared.Layout.{Layout}
 use Rattle.stored.specs.declared.Header.{Header}
-use Rattle.stored.specs.Layout.{vertexWidth, recordWidth, limits, vertexIn, recordIn}
+use Rattle.stored.specs.Layout.{vertexWidth, recordWidth, vertexIn, recordIn, numbersReach}
 use Rattle.mesh_tables.specs.Tables.{vertexWith, refinementEnds, leafHangs, hangingEdge}
 use Rattle.refine_cut.specs.Cut.{midpointOf, oneVertexMore, twoRecordsMore}
 use Rattle.refine_cut.specs.Slices.{Slices, tablesIn, vertexPut, headed, midpointPut, childrenPut, hasRoom, cutWith, cutPut}
@@ -142,51 +143,56 @@ module _ (most : Limits) (l : Layout) where
 
 -- ---- for every input
 
-module _ (lacking : Bool) (chosen : ℕ → Bool) (s : Slices) where
-  cannot-work : canWork s ≡ false → s ≡ refinedWithin lacking chosen s
+module _ (k : Kind) (lacking : Bool) (chosen : ℕ → Bool) (s : Slices) where
+  cannot-work : canWork k s ≡ false → s ≡ refinedWithin k lacking chosen s
   unfolding refinedWithin
   cannot-work e = rw e
 
-  pub exceeds-stays : exceeds limits (s .header) ≡ true → s ≡ refinedWithin lacking chosen s
+  pub out-of-reach-stays : numbersReach k ≡ false → s ≡ refinedWithin k lacking chosen s
   unfolding canWork
-  exceeds-stays e = cannot-work (rw e)
+  out-of-reach-stays e = cannot-work (rw e)
 
-  pub short-base-stays : length (s .base) < vertexWidth * (limits .vertices + 1) → s ≡ refinedWithin lacking chosen s
+  pub exceeds-stays : exceeds (k .limits) (s .header) ≡ true → s ≡ refinedWithin k lacking chosen s
   unfolding canWork
-  short-base-stays e = cannot-work (rw (lt-leb (vertexWidth * (limits .vertices + 1)) (length (s .base)) e, and-false (not (exceeds limits (s .header)))))
+  exceeds-stays e = cannot-work (rw (e, and-false (numbersReach k)))
 
-  pub short-growth-stays : length (s .grown) < recordWidth * (limits .records + 2) → s ≡ refinedWithin lacking chosen s
+  pub short-base-stays : length (s .base) < vertexWidth (k .format) * (k .limits .vertices + 1) → s ≡ refinedWithin k lacking chosen s
+  unfolding canWork
+  short-base-stays e = cannot-work (rw (lt-leb (vertexWidth (k .format) * (k .limits .vertices + 1)) (length (s .base)) e, and-false (not (exceeds (k .limits) (s .header))), and-false (numbersReach k)))
+
+  pub short-growth-stays : length (s .grown) < recordWidth (k .format) * (k .limits .records + 2) → s ≡ refinedWithin k lacking chosen s
   unfolding canWork
   short-growth-stays e =
       cannot-work
       (rw (
-        lt-leb (recordWidth * (limits .records + 2)) (length (s .grown)) e,
-        and-false (leb (vertexWidth * (limits .vertices + 1)) (length (s .base))),
-        and-false (not (exceeds limits (s .header))),
+        lt-leb (recordWidth (k .format) * (k .limits .records + 2)) (length (s .grown)) e,
+        and-false (leb (vertexWidth (k .format) * (k .limits .vertices + 1)) (length (s .base))),
+        and-false (not (exceeds (k .limits) (s .header))),
+        and-false (numbersReach k),
       ))
 
-  pub lacking-stays : lacking ≡ true → s ≡ refinedWithin lacking chosen s
+  pub lacking-stays : lacking ≡ true → s ≡ refinedWithin k lacking chosen s
   unfolding refinedWithin
-  lacking-stays e = rw (e, and-false (canWork s))
+  lacking-stays e = rw (e, and-false (canWork k s))
 
   -- Where the passes can be made, they are.
-  pub refined-within : lacking ≡ false → exceeds limits (s .header) ≡ false → vertexWidth * (limits .vertices + 1) ≤ length (s .base) → recordWidth * (limits .records + 2) ≤ length (s .grown) →
-      refinedWithin lacking chosen s ≡ refinedPut limits work chosen s
+  pub refined-within : numbersReach k ≡ true → lacking ≡ false → exceeds (k .limits) (s .header) ≡ false → vertexWidth (k .format) * (k .limits .vertices + 1) ≤ length (s .base) → recordWidth (k .format) * (k .limits .records + 2) ≤ length (s .grown) →
+      refinedWithin k lacking chosen s ≡ refinedPut (k .limits) (work k) chosen s
   unfolding refinedWithin canWork
-  refined-within enough few long deep =
-      rw (enough, few, le-leb (vertexWidth * (limits .vertices + 1)) (length (s .base)) long, le-leb (recordWidth * (limits .records + 2)) (length (s .grown)) deep)
+  refined-within reach enough few long deep =
+      rw (reach, enough, few, le-leb (vertexWidth (k .format) * (k .limits .vertices + 1)) (length (s .base)) long, le-leb (recordWidth (k .format) * (k .limits .records + 2)) (length (s .grown)) deep)
 
 -- What is lent is too short for the links, or for the records.
-module _ (heads nexts table : List ℕ) where
-  pub short-links : short heads nexts (limits .vertices + 1) ≡ true → tooShort heads nexts table ≡ true
+module _ (most : Limits) (heads nexts table : List ℕ) where
+  pub short-links : short heads nexts (most .vertices + 1) ≡ true → tooShort most heads nexts table ≡ true
   unfolding tooShort
   short-links e = rw e
 
-  pub short-table : length table < limits .records → tooShort heads nexts table ≡ true
+  pub short-table : length table < most .records → tooShort most heads nexts table ≡ true
   unfolding tooShort
-  short-table l = rw (lt-ltb (length table) (limits .records) l, or-true (short heads nexts (limits .vertices + 1)))
+  short-table l = rw (lt-ltb (length table) (most .records) l, or-true (short heads nexts (most .vertices + 1)))
 
   -- Or for neither.
-  pub long-enough : Roomy heads nexts (limits .vertices + 1) → limits .records ≤ length table → tooShort heads nexts table ≡ false
+  pub long-enough : Roomy heads nexts (most .vertices + 1) → most .records ≤ length table → tooShort most heads nexts table ≡ false
   unfolding tooShort
-  long-enough room places = rw (not-short heads nexts (limits .vertices + 1) room, le-ltb (length table) (limits .records) places)
+  long-enough room places = rw (not-short heads nexts (most .vertices + 1) room, le-ltb (length table) (most .records) places)

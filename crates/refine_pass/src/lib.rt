@@ -2,7 +2,9 @@
 // ends when there is none. Within a pass records go in rising number."
 //
 // The vertex with a parent pair is found along links, which are filled once when the passes begin; a vertex that a cut appends is put into them.
+use stored::Format;
 use stored::Header;
+use stored::Kind;
 use stored::Layout;
 use stored::Limits;
 ghost use mathlib.Core.Path.{_≡_};
@@ -10,7 +12,7 @@ ghost use mathlib.Core.Bool.{true};
 ghost use Prim.Native.Nat.{_≤_, _<_};
 ghost use lib.ListN.{length};
 ghost use Rattle.laws.specs.Counts.{marked};
-ghost use Rattle.stored.specs.Layout.{namedIn};
+ghost use Rattle.stored.specs.Layout.{numbersReach, selectionIn, namedIn};
 ghost use Rattle.mesh_tables.specs.Tables.{tables, leafHangs};
 ghost use Rattle.mesh_parents.specs.Pairs.{Linked};
 ghost use Rattle.refine_selection.specs.Selected.{isNamed};
@@ -91,13 +93,16 @@ fn turn(
 }
 
 // One more at each number that the selection names, in a table that is empty at first, whatever stood in it.
-pub fn choose_named(chosen: &mut [u16], selection: &[u8], count: usize)
-    ensures { λ _. ⌜ now (chosen .exit) ≡ tableOf (length (now (chosen .entry))) (now (selection .entry)) count ⌝ }
+pub fn choose_named(format: Format, chosen: &mut [u16], selection: &[u8], count: usize)
+    ensures { λ _. ⌜ now (chosen .exit) ≡ tableOf (length (now (chosen .entry))) (selectionIn format (now (selection .entry))) count ⌝ }
 {
     chains::clear(chosen);
     let mut i: usize = 0;
     while i < count {
-        chains::count(chosen, stored_selections::named_in(selection, i) as usize);
+        chains::count(
+            chosen,
+            stored_selections::named_in(format, selection, i) as usize,
+        );
         i += 1;
     }
 }
@@ -203,16 +208,16 @@ fn passes(
     requires { ⌜ AtWork most l (slices h (now base) (now grown)) (now heads) (now nexts) ⌝ }
     requires { ⌜ h .records ≤ length (now chosen) ⌝ }
     requires { ⌜ most .records ≤ length (now chosen) ⌝ }
-    ensures { λ r. ⌜ slices r (now (base .exit)) (now (grown .exit)) ≡ refinedPut most l (isNamed count (namedIn (now (selection .entry)))) (slices h (now (base .entry)) (now (grown .entry))) ⌝ }
+    ensures { λ r. ⌜ slices r (now (base .exit)) (now (grown .exit)) ≡ refinedPut most l (isNamed count (namedIn (selectionIn (l .format) (now (selection .entry))))) (slices h (now (base .entry)) (now (grown .entry))) ⌝ }
 {
-    choose_named(chosen, selection, count);
+    choose_named(l.format, chosen, selection, count);
     let with = pass(most, h, l, base, grown, heads, nexts, chosen);
     close(most, with, l, base, grown, heads, nexts, chosen)
 }
 
-// All passes on tables to work on, with lists that are lent for the links and for the chosen records, whatever stands in them. Where the slices don't have
-// the tables, the lists are too short, or there are more vertices or records than there may be, nothing is cut.
-pub fn refined(
+// The same of a kind whose numbers reach far enough.
+fn refined_within(
+    k: Kind,
     h: Header,
     base: &mut [u8],
     grown: &mut [u8],
@@ -222,16 +227,18 @@ pub fn refined(
     selection: &[u8],
     count: usize,
 ) -> Header
-    ensures { λ r. ⌜ slices r (now (base .exit)) (now (grown .exit)) ≡ refinedWithin (tooShort (now (heads .entry)) (now (nexts .entry)) (now (chosen .entry))) (isNamed count (namedIn (now (selection .entry)))) (slices h (now (base .entry)) (now (grown .entry))) ⌝ }
+    requires { ⌜ numbersReach k ≡ true ⌝ }
+    ensures { λ r. ⌜ slices r (now (base .exit)) (now (grown .exit)) ≡ refinedWithin k (tooShort (k .limits) (now (heads .entry)) (now (nexts .entry)) (now (chosen .entry))) (isNamed count (namedIn (selectionIn (k .format) (now (selection .entry))))) (slices h (now (base .entry)) (now (grown .entry))) ⌝ }
 {
-    let most = stored::limits_of_version_1();
+    let most = k.limits;
+    let format = k.format;
     if exceeds(most, h) {
         return h;
     }
-    if base.len() < stored::WORKING_VERTEX_BYTES {
+    if base.len() < stored::vertex_width(format) * (most.vertices as usize + 1) {
         return h;
     }
-    if grown.len() < stored::WORKING_RECORD_BYTES {
+    if grown.len() < stored::record_width(format) * (most.records as usize + 2) {
         return h;
     }
     if chains::is_short(heads, nexts, most.vertices as usize + 1) {
@@ -240,7 +247,7 @@ pub fn refined(
     if chosen.len() < most.records as usize {
         return h;
     }
-    let l = stored::working_layout(most.vertices + 1, most.records + 2);
+    let l = stored::working_layout(format, most.vertices + 1, most.records + 2);
     mesh_parents::link_pairs(h, l, base, grown, heads, nexts);
     passes(
         most,
@@ -254,4 +261,25 @@ pub fn refined(
         selection,
         count,
     )
+}
+
+// All passes on tables to work on, with lists that are lent for the links and for the chosen records, whatever stands in them. Where the kind's
+// numbers don't reach far enough, the slices don't have the tables, the lists are too short, or there are more vertices or records than there may be, nothing is cut.
+pub fn refined(
+    k: Kind,
+    h: Header,
+    base: &mut [u8],
+    grown: &mut [u8],
+    heads: &mut [u16],
+    nexts: &mut [u16],
+    chosen: &mut [u16],
+    selection: &[u8],
+    count: usize,
+) -> Header
+    ensures { λ r. ⌜ slices r (now (base .exit)) (now (grown .exit)) ≡ refinedWithin k (tooShort (k .limits) (now (heads .entry)) (now (nexts .entry)) (now (chosen .entry))) (isNamed count (namedIn (selectionIn (k .format) (now (selection .entry))))) (slices h (now (base .entry)) (now (grown .entry))) ⌝ }
+{
+    if !stored::numbers_reach(k) {
+        return h;
+    }
+    refined_within(k, h, base, grown, heads, nexts, chosen, selection, count)
 }

@@ -9,15 +9,15 @@ use Rattle.piece.specs.Shape.{lastGeneration}
 use Rattle.stored.specs.declared.Header.{Header}
 use Rattle.stored.specs.declared.Record.{Record}
 use Rattle.stored.specs.declared.Selection.{Selection}
-use Rattle.stored.specs.Layout.{lastRound, rightSelectionLength, rightSelectionMark, selectionOf, namedIn}
+use Rattle.stored.specs.Layout.{lastRound, StoredSelection, rightSelectionLength, rightSelectionMark, selectionOf, namedIn}
 use Rattle.mesh_tables.specs.Tables.{uncut}
 
 -- 11: "selection under 13 bytes, or length not 13 + 2n"
-unfoldable pub wrongSelectionLength : List ℕ → Bool
+unfoldable pub wrongSelectionLength : StoredSelection → Bool
 wrongSelectionLength t = not (rightSelectionLength t)
 
 -- 12: "selection's mark or version wrong"
-unfoldable pub wrongSelectionMark : List ℕ → Bool
+unfoldable pub wrongSelectionMark : StoredSelection → Bool
 wrongSelectionMark t = not (rightSelectionMark t)
 
 -- 13: "another job"
@@ -35,8 +35,8 @@ badNumber records count named i = leb records (named i) || (ltb (i + 1) count &&
 unfoldable pub badNumbers : ℕ → ℕ → (ℕ → ℕ) → Bool
 badNumbers records count named = anyBelow count (badNumber records count named)
 
--- 11 to 15: what is asked of every selection, of the mesh's header and the selection's bytes.
-unfoldable pub selectionRows : Header → List ℕ → List Row
+-- 11 to 15: what is asked of every selection, of the mesh's header and the selection.
+unfoldable pub selectionRows : Header → StoredSelection → List Row
 selectionRows h selection =
     let s = selectionOf selection in
     row 11 (wrongSelectionLength selection)

@@ -4,6 +4,7 @@ use mathlib.Core.Bool.{Bool, true, false, cond}
 use mathlib.Core.Logic.{_↔_}
 use mathlib.Core.List.{List, _++_}
 use Prim.Native.Nat.{ℕ, zero, suc, _+_, _*_, _≤_, _<_}
+use native.Mathlib.Nat.{mul-le-mul-left}
 use native.Mathlib.Omega.{arith}
 use lib.ListN.{length, drop, replicate, length-replicate}
 use lib.Seq.{sets, length-sets}
@@ -11,10 +12,13 @@ use lib.Dec.{eqb, lit<}
 use borrow.Author.Tests.{eqb-true, lt-ltb, le-ltb, not-false}
 use Rattle.laws.specs.Lists.{zeroPast, Bytes, bytes-none, bytes-cons, bytes-take, bytes-drop, bytes-sets, clear-with, outputOf}
 use Rattle.laws.specs.Order.{firstBroken, one-after-other, both-hold, none-broken}
+use Rattle.stored.specs.declared.Format.{Format}
+use Rattle.stored.specs.declared.Kind.{Kind}
 use Rattle.stored.specs.declared.Header.{Header}
-use Rattle.stored.specs.Layout.{headerWidth, vertexWidth, recordWidth, limits, nextRound, headerOf, rightLength, meshLength, layoutOf, vertexPart, recordPart, assembled, meshBytes, selectionOf, namedIn}
-use Rattle.stored.specs.Meshes.{length-says, assembled-length}
-use Rattle.stored.specs.Worked.{copied-vertices, copied-records, assembled-mesh}
+use Rattle.stored.specs.Layout.{headerWidth, vertexWidth, recordWidth, nextRound, Stored, headerOf, rightLength, meshLength, layoutOf, vertexPart, recordPart, assembled, meshBytes, StoredSelection, selectionOf, namedIn}
+use Rattle.stored.specs.Fitting.{right-reaches}
+use Rattle.stored.specs.Meshes.{length-says, one-length}
+use Rattle.stored.specs.Worked.{assembled-length, copied-vertices, copied-records, assembled-mesh}
 use Rattle.mesh_tables.specs.Tables.{Tables, tables, tablesOf}
 use Rattle.check_refusals.specs.Refusals.{wrongLength}
 use Rattle.check_refusals.specs.Check.{rows, tableRows, checkNumber}
@@ -30,55 +34,59 @@ use Rattle.refine_service.specs.Order.{selectionNumber}
 
 -- ---- 19 and 20, of what the passes leave
 
-unfoldable pub storedNumber : Header → ℕ → ℕ
-storedNumber h room = firstBroken (resultRows h room)
+unfoldable pub storedNumber : Kind → Header → ℕ → ℕ
+storedNumber k h room = firstBroken (resultRows k h room)
 
-unfoldable pub storedBytes : Header → List ℕ → List ℕ → ℕ → List ℕ
-storedBytes h vertices records room = outputOf (storedNumber h room) room (assembled (nextRound h) vertices records)
+unfoldable pub storedBytes : Kind → Header → List ℕ → List ℕ → ℕ → List ℕ
+storedBytes k h vertices records room = outputOf (storedNumber k h room) room (assembled (k .format) (nextRound h) vertices records)
 
 -- What is assembled: the slices are those to work on, and the output buffer is clear.
-pub record Assembled (h : Header) (vertices records out : List ℕ) : Type 0 where
-  pub vertices-there : length vertices ≡ vertexWidth * (limits .vertices + 1)
-  pub records-there : length records ≡ recordWidth * (limits .records + 2)
+pub record Assembled (k : Kind) (h : Header) (vertices records out : List ℕ) : Type 0 where
+  pub vertices-there : length vertices ≡ vertexWidth (k .format) * (k .limits .vertices + 1)
+  pub records-there : length records ≡ recordWidth (k .format) * (k .limits .records + 2)
   pub clear : out ≡ replicate (length out) 0
 
-module _ (h : Header) (vertices records out : List ℕ) (a : Assembled h vertices records out) where
-  refused-bytes : eqb (storedNumber h (length out)) 0 ≡ false → out ≡ storedBytes h vertices records (length out)
+room-of : (w n most long : ℕ) → n ≤ most → long ≡ w * most → w * n ≤ long
+room-of w n most long l e = let m = mul-le-mul-left w l in omega arith
+
+module _ (k : Kind) (h : Header) (vertices records out : List ℕ) (a : Assembled k h vertices records out) where
+  refused-bytes : eqb (storedNumber k h (length out)) 0 ≡ false → out ≡ storedBytes k h vertices records (length out)
   unfolding storedBytes
   refused-bytes e = rw e (a .clear)
 
-  pub stored-19 : exceeds limits h ≡ true → (19 ≡ storedNumber h (length out)) × (out ≡ storedBytes h vertices records (length out))
+  pub stored-19 : exceeds (k .limits) h ≡ true → (19 ≡ storedNumber k h (length out)) × (out ≡ storedBytes k h vertices records (length out))
   unfolding storedNumber resultRows firstBroken
-  stored-19 e = let n : 19 ≡ storedNumber h (length out) = rw e in (n, refused-bytes (rw (← n)))
+  stored-19 e = let n : 19 ≡ storedNumber k h (length out) = rw e in (n, refused-bytes (rw (← n)))
 
-  module _ (few : exceeds limits h ≡ false) where
-    pub stored-20 : length out < meshLength (h .vertices) (h .records) → (20 ≡ storedNumber h (length out)) × (out ≡ storedBytes h vertices records (length out))
+  module _ (few : exceeds (k .limits) h ≡ false) where
+    pub stored-20 : length out < meshLength (k .format) (h .vertices) (h .records) → (20 ≡ storedNumber k h (length out)) × (out ≡ storedBytes k h vertices records (length out))
     unfolding storedNumber resultRows firstBroken
-    stored-20 l = let n : 20 ≡ storedNumber h (length out) = rw (few, lt-ltb (length out) (meshLength (h .vertices) (h .records)) l) in (n, refused-bytes (rw (← n)))
+    stored-20 l = let n : 20 ≡ storedNumber k h (length out) = rw (few, lt-ltb (length out) (meshLength (k .format) (h .vertices) (h .records)) l) in (n, refused-bytes (rw (← n)))
 
-    pub stored-0 : meshLength (h .vertices) (h .records) ≤ length out → (0 ≡ storedNumber h (length out)) × (sets out 0 (assembled (nextRound h) vertices records) ≡ storedBytes h vertices records (length out))
+    pub stored-0 : meshLength (k .format) (h .vertices) (h .records) ≤ length out → (0 ≡ storedNumber k h (length out)) × (sets out 0 (assembled (k .format) (nextRound h) vertices records) ≡ storedBytes k h vertices records (length out))
     unfolding storedNumber resultRows firstBroken storedBytes
     stored-0 l =
-        let n : 0 ≡ storedNumber h (length out) = rw (few, le-ltb (length out) (meshLength (h .vertices) (h .records)) l) in
-        let (v, r) = within limits h few in
-        let long = assembled-length (nextRound h) vertices records (omega (arith, a .vertices-there)) (omega (arith, a .records-there)) in
-        (n, rw (← n) (ap (λ (t : List ℕ). sets t 0 (assembled (nextRound h) vertices records)) (a .clear) ∙ clear-with (length out) (assembled (nextRound h) vertices records) (omega arith)))
+        let n : 0 ≡ storedNumber k h (length out) = rw (few, le-ltb (length out) (meshLength (k .format) (h .vertices) (h .records)) l) in
+        let (v, r) = within (k .limits) h few in
+        let long = assembled-length (k .format) (nextRound h) vertices records (room-of (vertexWidth (k .format)) (h .vertices) (k .limits .vertices + 1) (length vertices) (omega arith) (a .vertices-there)) (room-of (recordWidth (k .format)) (h .records) (k .limits .records + 2) (length records) (omega arith) (a .records-there)) in
+        (n, rw (← n) (ap (λ (t : List ℕ). sets t 0 (assembled (k .format) (nextRound h) vertices records)) (a .clear) ∙ clear-with (length out) (assembled (k .format) (nextRound h) vertices records) (omega arith)))
 
 -- ---- the tables, copied and worked on
 
 -- What refine answers after 18.
-unfoldable pub laterNumber : List ℕ → List ℕ → ℕ → ℕ
-laterNumber mesh selection room = storedNumber (closed mesh selection .header) room
+unfoldable pub laterNumber : Stored → StoredSelection → ℕ → ℕ
+laterNumber mesh selection room = storedNumber (mesh .kind) (closed mesh selection .header) room
 
-unfoldable pub laterBytes : List ℕ → List ℕ → ℕ → List ℕ
-laterBytes mesh selection room = outputOf (laterNumber mesh selection room) room (meshBytes (resultOf (closed mesh selection)))
+unfoldable pub laterBytes : Stored → StoredSelection → ℕ → List ℕ
+laterBytes mesh selection room = outputOf (laterNumber mesh selection room) room (meshBytes (mesh .kind .format) (resultOf (closed mesh selection)))
 
--- What is copied: a mesh of the right length within the limits; the output buffer is clear.
-pub record Copied (h : Header) (mesh out : List ℕ) : Type 0 where
+-- What is copied: a mesh in one buffer, of the right length and within the limits; the output buffer is clear.
+pub record Copied (h : Header) (mesh : Stored) (out : List ℕ) : Type 0 where
+  pub one : mesh .kind .two ≡ false
   pub header : h ≡ headerOf mesh
-  pub long : length mesh ≡ meshLength (h .vertices) (h .records)
-  pub vertices : h .vertices ≤ limits .vertices
-  pub records : h .records ≤ limits .records
+  pub long : length (mesh .base) ≡ meshLength (mesh .kind .format) (h .vertices) (h .records)
+  pub vertices : h .vertices ≤ mesh .kind .limits .vertices
+  pub records : h .records ≤ mesh .kind .limits .records
   pub clear : out ≡ replicate (length out) 0
 
 -- Only what is stored is written.
@@ -89,102 +97,105 @@ same-output number room a b same = go (eqb number 0) (λ e. same (eqb-true numbe
     go true q = ap (λ (t : List ℕ). zeroPast room t) (q refl)
     go false q = refl
 
-stored-few : (h : Header) (room : ℕ) → storedNumber h room ≡ 0 → exceeds limits h ≡ false
+stored-few : (k : Kind) (h : Header) (room : ℕ) → storedNumber k h room ≡ 0 → exceeds (k .limits) h ≡ false
 unfolding storedNumber resultRows
-stored-few h room e = none-broken (resultRows h room) refl e 19
+stored-few k h room e = none-broken (resultRows k h room) refl e 19
 
 bytes-zeros : (n : ℕ) → Bytes (replicate n 0)
 bytes-zeros zero = bytes-none
 bytes-zeros (suc n) = bytes-cons (lit< tt) (bytes-zeros n)
 
-module _ (mesh selection out : List ℕ) (h : Header) (c : Copied h mesh out) where
+module _ (mesh : Stored) (selection : StoredSelection) (out : List ℕ) (h : Header) (c : Copied h mesh out) where
+  abbrev f : Format
+  f = mesh .kind .format
+
   abbrev pub copiedVertices : List ℕ
-  copiedVertices = sets (replicate (vertexWidth * (limits .vertices + 1)) 0) 0 (vertexPart h mesh)
+  copiedVertices = sets (replicate (vertexWidth (mesh .kind .format) * (mesh .kind .limits .vertices + 1)) 0) 0 (vertexPart (mesh .kind .format) h (mesh .base))
 
   abbrev pub copiedRecords : List ℕ
-  copiedRecords = sets (replicate (recordWidth * (limits .records + 2)) 0) 0 (recordPart h mesh)
+  copiedRecords = sets (replicate (recordWidth (mesh .kind .format) * (mesh .kind .limits .records + 2)) 0) 0 (recordPart (mesh .kind .format) h (mesh .base))
 
   abbrev chosen : ℕ → Bool
   chosen = isNamed (selectionOf selection .count) (namedIn selection)
 
-  copied-tables : tables h work copiedVertices copiedRecords ≡ tablesOf mesh
+  copied-tables : tables h (work (mesh .kind)) copiedVertices copiedRecords ≡ tablesOf mesh
   unfolding tablesOf
   copied-tables =
-      let v : h .vertices ≤ limits .vertices + 1 = omega (arith, c .vertices) in
-      let r : h .records ≤ limits .records + 2 = omega (arith, c .records) in
+      let v : h .vertices ≤ mesh .kind .limits .vertices + 1 = omega (arith, c .vertices) in
+      let r : h .records ≤ mesh .kind .limits .records + 2 = omega (arith, c .records) in
       (λ i. record {
         header = h;
-        vertexAt = copied-vertices h mesh (c .long) (limits .vertices + 1) (limits .records + 2) v r i;
-        recordAt = copied-records h mesh (c .long) (limits .vertices + 1) (limits .records + 2) v r i;
+        vertexAt = copied-vertices f h (mesh .base) (c .long) (mesh .kind .limits .vertices + 1) (mesh .kind .limits .records + 2) v r (mesh .kind) (c .one) refl (mesh .grown) i;
+        recordAt = copied-records f h (mesh .base) (c .long) (mesh .kind .limits .vertices + 1) (mesh .kind .limits .records + 2) v r (mesh .kind) (c .one) refl (mesh .grown) i;
       })
-      ∙ ap (λ (g : Header). tables g (layoutOf g) mesh mesh) (c .header)
+      ∙ ap (λ (g : Header). tables g (layoutOf (mesh .kind) g) (mesh .base) (mesh .grown)) (c .header)
 
-  module _ (bytes : Bytes mesh) (with : Header) (vertices records : List ℕ) (is : slices with vertices records ≡ refinedWithin false chosen (slices h copiedVertices copiedRecords))
-      (long : length vertices ≡ vertexWidth * (limits .vertices + 1)) (deep : length records ≡ recordWidth * (limits .records + 2)) where
-    vertex-bytes : Bytes (vertexPart h mesh)
+  module _ (bytes : Bytes (mesh .base)) (with : Header) (vertices records : List ℕ) (is : slices with vertices records ≡ refinedWithin (mesh .kind) false chosen (slices h copiedVertices copiedRecords))
+      (long : length vertices ≡ vertexWidth (mesh .kind .format) * (mesh .kind .limits .vertices + 1)) (deep : length records ≡ recordWidth (mesh .kind .format) * (mesh .kind .limits .records + 2)) where
+    vertex-bytes : Bytes (vertexPart (mesh .kind .format) h (mesh .base))
     unfolding vertexPart
-    vertex-bytes = bytes-take (vertexWidth * h .vertices) (drop headerWidth mesh) (bytes-drop headerWidth mesh bytes)
+    vertex-bytes = bytes-take (vertexWidth f * h .vertices) (drop (headerWidth f) (mesh .base)) (bytes-drop (headerWidth f) (mesh .base) bytes)
 
-    record-bytes : Bytes (recordPart h mesh)
+    record-bytes : Bytes (recordPart (mesh .kind .format) h (mesh .base))
     unfolding recordPart
-    record-bytes = bytes-take (recordWidth * h .records) (drop (headerWidth + vertexWidth * h .vertices) mesh) (bytes-drop (headerWidth + vertexWidth * h .vertices) mesh bytes)
+    record-bytes = bytes-take (recordWidth f * h .records) (drop (headerWidth f + vertexWidth f * h .vertices) (mesh .base)) (bytes-drop (headerWidth f + vertexWidth f * h .vertices) (mesh .base) bytes)
 
-    vertex-room : vertexWidth * (limits .vertices + 1) ≤ length copiedVertices
-    vertex-room = omega (arith, length-sets (replicate (vertexWidth * (limits .vertices + 1)) 0) 0 (vertexPart h mesh), length-replicate {A = ℕ} (vertexWidth * (limits .vertices + 1)) 0)
+    vertex-room : vertexWidth (mesh .kind .format) * (mesh .kind .limits .vertices + 1) ≤ length copiedVertices
+    vertex-room = omega (arith, length-sets (replicate (vertexWidth (mesh .kind .format) * (mesh .kind .limits .vertices + 1)) 0) 0 (vertexPart (mesh .kind .format) h (mesh .base)), length-replicate {A = ℕ} (vertexWidth (mesh .kind .format) * (mesh .kind .limits .vertices + 1)) 0)
 
-    record-room : recordWidth * (limits .records + 2) ≤ length copiedRecords
-    record-room = omega (arith, length-sets (replicate (recordWidth * (limits .records + 2)) 0) 0 (recordPart h mesh), length-replicate {A = ℕ} (recordWidth * (limits .records + 2)) 0)
+    record-room : recordWidth (mesh .kind .format) * (mesh .kind .limits .records + 2) ≤ length copiedRecords
+    record-room = omega (arith, length-sets (replicate (recordWidth (mesh .kind .format) * (mesh .kind .limits .records + 2)) 0) 0 (recordPart (mesh .kind .format) h (mesh .base)), length-replicate {A = ℕ} (recordWidth (mesh .kind .format) * (mesh .kind .limits .records + 2)) 0)
 
-    begun : Working limits work (slices h copiedVertices copiedRecords)
+    begun : Working (mesh .kind .limits) (work (mesh .kind)) (slices h copiedVertices copiedRecords)
     begun =
-        can-begin (slices h copiedVertices copiedRecords) vertex-room record-room
-        (bytes-sets (replicate (vertexWidth * (limits .vertices + 1)) 0) 0 (vertexPart h mesh) (bytes-zeros (vertexWidth * (limits .vertices + 1))) vertex-bytes, bytes-sets (replicate (recordWidth * (limits .records + 2)) 0) 0 (recordPart h mesh) (bytes-zeros (recordWidth * (limits .records + 2))) record-bytes)
+        can-begin (mesh .kind) (right-reaches (mesh .kind) (mesh .right)) (slices h copiedVertices copiedRecords) vertex-room record-room
+        (bytes-sets (replicate (vertexWidth (mesh .kind .format) * (mesh .kind .limits .vertices + 1)) 0) 0 (vertexPart (mesh .kind .format) h (mesh .base)) (bytes-zeros (vertexWidth (mesh .kind .format) * (mesh .kind .limits .vertices + 1))) vertex-bytes, bytes-sets (replicate (recordWidth (mesh .kind .format) * (mesh .kind .limits .records + 2)) 0) 0 (recordPart (mesh .kind .format) h (mesh .base)) (bytes-zeros (recordWidth (mesh .kind .format) * (mesh .kind .limits .records + 2))) record-bytes)
 
     -- Within the limits all passes are made.
-    made : slices with vertices records ≡ refinedPut limits work chosen (slices h copiedVertices copiedRecords)
-    made = is ∙ refined-within false chosen (slices h copiedVertices copiedRecords) refl (not-exceeds limits h (c .vertices) (c .records)) vertex-room record-room
+    made : slices with vertices records ≡ refinedPut (mesh .kind .limits) (work (mesh .kind)) chosen (slices h copiedVertices copiedRecords)
+    made = is ∙ refined-within (mesh .kind) false chosen (slices h copiedVertices copiedRecords) (right-reaches (mesh .kind) (mesh .right)) refl (not-exceeds (mesh .kind .limits) h (c .vertices) (c .records)) vertex-room record-room
 
-    ended : Working limits work (slices with vertices records)
-    ended = subst (Working limits work) (sym made) (refined-working limits work chosen (slices h copiedVertices copiedRecords) begun)
+    ended : Working (mesh .kind .limits) (work (mesh .kind)) (slices with vertices records)
+    ended = subst (Working (mesh .kind .limits) (work (mesh .kind))) (sym made) (refined-working (mesh .kind .limits) (work (mesh .kind)) chosen (slices h copiedVertices copiedRecords) begun)
 
-    worked : tables with work vertices records ≡ closed mesh selection
+    worked : tables with (work (mesh .kind)) vertices records ≡ closed mesh selection
     unfolding closed
     worked =
-        ap (tablesIn work) made
-        ∙ refined-tables limits work chosen (slices h copiedVertices copiedRecords) begun
-        ∙ ap (refined limits chosen) copied-tables
+        ap (tablesIn (work (mesh .kind))) made
+        ∙ refined-tables (mesh .kind .limits) (work (mesh .kind)) chosen (slices h copiedVertices copiedRecords) begun
+        ∙ ap (refined (mesh .kind .limits) chosen) copied-tables
 
-    pub worked-assembled : Assembled with vertices records out
+    pub worked-assembled : Assembled (mesh .kind) with vertices records out
     worked-assembled = record { vertices-there = long; records-there = deep; clear = c .clear }
 
-    pub later-number : (room : ℕ) → storedNumber with room ≡ laterNumber mesh selection room
+    pub later-number : (room : ℕ) → storedNumber (mesh .kind) with room ≡ laterNumber mesh selection room
     unfolding laterNumber
-    later-number room = λ i. storedNumber (worked i .header) room
+    later-number room = λ i. storedNumber (mesh .kind) (worked i .header) room
 
-    pub later-bytes : (room : ℕ) → storedBytes with vertices records room ≡ laterBytes mesh selection room
+    pub later-bytes : (room : ℕ) → storedBytes (mesh .kind) with vertices records room ≡ laterBytes mesh selection room
     unfolding storedBytes laterBytes laterNumber resultOf
     later-bytes room =
-        same-output (storedNumber with room) room (assembled (nextRound with) vertices records) (meshBytes (resultOf (tables with work vertices records)))
-        (λ e. let (v, r) = within limits with (stored-few with room e) in
-        assembled-mesh (nextRound with) (limits .vertices + 1) (limits .records + 2) (omega arith) (omega arith) vertices records (ended .bytes .0) (ended .bytes .1) long deep)
-        ∙ ap (λ (m : Tables). outputOf (storedNumber (m .header) room) room (meshBytes (resultOf m))) worked
+        same-output (storedNumber (mesh .kind) with room) room (assembled f (nextRound with) vertices records) (meshBytes f (resultOf (tables with (work (mesh .kind)) vertices records)))
+        (λ e. let (v, r) = within (mesh .kind .limits) with (stored-few (mesh .kind) with room e) in
+        assembled-mesh f (nextRound with) (mesh .kind .limits .vertices + 1) (mesh .kind .limits .records + 2) (omega arith) (omega arith) vertices records (ended .bytes .0) (ended .bytes .1) long deep)
+        ∙ ap (λ (m : Tables). outputOf (storedNumber (mesh .kind) (m .header) room) room (meshBytes f (resultOf m))) worked
 
 -- ---- what refine answers, part by part
 
-module _ (mesh selection : List ℕ) (room : ℕ) where
+module _ (mesh : Stored) (selection : StoredSelection) (room : ℕ) where
   refused : eqb (refineNumber mesh selection room) 0 ≡ false → replicate room 0 ≡ refineBytes mesh selection room
   unfolding refineBytes
   refused e = rw e
 
   -- Check's numbers come first, then 11 to 18, then 19 and 20.
-  after-check : refineNumber mesh selection room ≡ cond (eqb (checkNumber mesh) 0) (firstBroken (refineSelectionRows (tablesOf mesh) selection ++ resultRows (closed mesh selection .header) room)) (checkNumber mesh)
+  after-check : refineNumber mesh selection room ≡ cond (eqb (checkNumber mesh) 0) (firstBroken (refineSelectionRows (tablesOf mesh) selection ++ resultRows (mesh .kind) (closed mesh selection .header) room)) (checkNumber mesh)
   unfolding refineNumber checkNumber rows tableRows
-  after-check = one-after-other (rows mesh) (refineSelectionRows (tablesOf mesh) selection ++ resultRows (closed mesh selection .header) room) refl
+  after-check = one-after-other (rows mesh) (refineSelectionRows (tablesOf mesh) selection ++ resultRows (mesh .kind) (closed mesh selection .header) room) refl
 
-  after-selection : firstBroken (refineSelectionRows (tablesOf mesh) selection ++ resultRows (closed mesh selection .header) room)
+  after-selection : firstBroken (refineSelectionRows (tablesOf mesh) selection ++ resultRows (mesh .kind) (closed mesh selection .header) room)
       ≡ cond (eqb (selectionNumber (tablesOf mesh) selection) 0) (laterNumber mesh selection room) (selectionNumber (tablesOf mesh) selection)
   unfolding selectionNumber laterNumber storedNumber refineSelectionRows selectionRows roundRow
-  after-selection = one-after-other (refineSelectionRows (tablesOf mesh) selection) (resultRows (closed mesh selection .header) room) refl
+  after-selection = one-after-other (refineSelectionRows (tablesOf mesh) selection) (resultRows (mesh .kind) (closed mesh selection .header) room) refl
 
   pub refine-judged : eqb (checkNumber mesh) 0 ≡ false → (checkNumber mesh ≡ refineNumber mesh selection room) × (replicate room 0 ≡ refineBytes mesh selection room)
   refine-judged e = let n : checkNumber mesh ≡ refineNumber mesh selection room = sym (after-check ∙ rw e) in (n, refused (rw (← n) e))
@@ -193,8 +204,8 @@ module _ (mesh selection : List ℕ) (room : ℕ) where
   pub refine-none : (refineNumber mesh selection room ≡ 0) ↔ ((checkNumber mesh ≡ 0) × ((selectionNumber (tablesOf mesh) selection ≡ 0) × (laterNumber mesh selection room ≡ 0)))
   unfolding refineNumber checkNumber rows tableRows selectionNumber laterNumber storedNumber refineSelectionRows selectionRows roundRow
   refine-none =
-      let first = both-hold (rows mesh) (refineSelectionRows (tablesOf mesh) selection ++ resultRows (closed mesh selection .header) room) refl in
-      let later = both-hold (refineSelectionRows (tablesOf mesh) selection) (resultRows (closed mesh selection .header) room) refl in
+      let first = both-hold (rows mesh) (refineSelectionRows (tablesOf mesh) selection ++ resultRows (mesh .kind) (closed mesh selection .header) room) refl in
+      let later = both-hold (refineSelectionRows (tablesOf mesh) selection) (resultRows (mesh .kind) (closed mesh selection .header) room) refl in
       (λ e. (first .0 e .0, later .0 (first .0 e .1)), λ z. first .1 (z .0, later .1 (z .1)))
 
   module _ (accepted : checkNumber mesh ≡ 0) where
@@ -211,15 +222,17 @@ module _ (mesh selection : List ℕ) (room : ℕ) where
       unfolding laterBytes refineBytes
       refine-later-bytes = rw refine-later
 
--- What acceptance by check says of the mesh.
-pub copied-ready : (mesh out : List ℕ) → checkNumber mesh ≡ 0 → out ≡ replicate (length out) 0 → Copied (headerOf mesh) mesh out
-unfolding checkNumber rows tableRows headerOf wrongLength
-copied-ready mesh out e clear =
+-- What acceptance by check says of a mesh in one buffer.
+pub copied-ready : (mesh : Stored) → mesh .kind .two ≡ false → (out : List ℕ) → checkNumber mesh ≡ 0 → out ≡ replicate (length out) 0 → Copied (headerOf mesh) mesh out
+unfolding checkNumber rows tableRows wrongLength
+copied-ready mesh one out e clear =
+    let k = mesh .kind in
     let holds = none-broken (rows mesh) refl e in
-    let few = bounded (headerOf mesh) (holds 3) in
+    let few = bounded (k .limits) (headerOf mesh) (holds 3) in
     record {
+      one = one;
       header = refl;
-      long = length-says mesh (not-false (rightLength mesh) (holds 1)) .1;
+      long = length-says k (mesh .base) (mesh .grown) (not-false (rightLength k (mesh .base) (mesh .grown)) (holds 1)) .2 ∙ one-length k one (headerOf mesh);
       vertices = few .vertices;
       records = few .records;
       clear = clear;

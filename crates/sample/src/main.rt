@@ -24,9 +24,10 @@ fn print_marks(edge: u8, marks: [u8; 4]) {
 }
 
 fn print_record(l: Layout, mesh: &[u8], n: usize) {
-    let record = stored_entries::record_in(l, mesh, mesh, n);
+    let nothing = &mesh[..0];
+    let record = stored_entries::record_in(l, mesh, nothing, n);
     let p = record.piece;
-    let ends = mesh_tables::refinement_ends(l, mesh, mesh, n);
+    let ends = mesh_tables::refinement_ends(l, mesh, nothing, n);
     print_figure(b"  record ", n as u64);
     let corners = p.corners;
     print_corners(corners);
@@ -34,17 +35,18 @@ fn print_record(l: Layout, mesh: &[u8], n: usize) {
     print_marks(p.edge, marks);
     print_figure(b" cut next at ", ends.lower as u64);
     print_figure(b"-", ends.higher as u64);
-    print_figure(b" sixfold ", check_figures::sixfold_at(l, mesh, mesh, n));
+    print_figure(b" sixfold ", check_figures::sixfold_at(l, mesh, nothing, n));
     io::write_all(STDOUT_FILENO, b"\n");
 }
 
 fn print_leaves(mesh: &[u8]) {
-    let h = stored_headers::header_of(mesh);
-    let l = stored::layout_of(h);
+    let k = stored::kind_1();
+    let h = stored_headers::header_from(k.format, mesh);
+    let l = stored::layout_of(k, h);
     let count = h.records as usize;
     let mut n: usize = 0;
     while n < count {
-        if mesh_tables::is_leaf(l, mesh, mesh, n) {
+        if mesh_tables::is_leaf(l, mesh, &mesh[..0], n) {
             print_record(l, mesh, n);
         }
         n += 1;
@@ -58,7 +60,7 @@ fn shown(service: &[u8], number: u32, out: &[u8]) {
         io::write_all(STDOUT_FILENO, b"\n");
         return;
     }
-    let h = stored_headers::header_of(out);
+    let h = stored_headers::header_from(stored::version_1(), out);
     print_figure(b", round ", h.round as u64);
     print_figure(b", vertices ", h.vertices as u64);
     print_figure(b", records ", h.records as u64);

@@ -2,6 +2,7 @@
 use check_refusals::Report;
 use list_service::Listed;
 ghost use lib.ListN.{length};
+ghost use Rattle.stored.specs.Layout.{stored1, selection1};
 ghost use Rattle.check_refusals.specs.Check.{CheckOutcomeIs};
 ghost use Rattle.build_service.specs.Build.{BuildOutcomeIs};
 ghost use Rattle.refine_service.specs.Refine.{RefineOutcomeIs};
@@ -10,7 +11,7 @@ ghost use Rattle.list_service.specs.Listing.{ListOutcomeIs};
 
 #[no_mangle]
 pub extern "C" fn tmb_check(mesh: &[u8]) -> Report
-    ensures { λ r. ⌜ CheckOutcomeIs (now (mesh .entry)) r ⌝ }
+    ensures { λ r. ⌜ CheckOutcomeIs (stored1 (now (mesh .entry))) r ⌝ }
 {
     check_service::check(mesh)
 }
@@ -24,14 +25,14 @@ pub extern "C" fn tmb_build(job: u32, coordinates: &[i16], corners: &[u16], out:
 
 #[no_mangle]
 pub extern "C" fn tmb_refine<'a>(mesh: &'a [u8], selection: &'a [u8], out: &mut [u8]) -> u32
-    ensures { λ r. ⌜ RefineOutcomeIs (now (mesh .entry)) (now (selection .entry)) (length (now (out .entry))) r (now (out .exit)) ⌝ }
+    ensures { λ r. ⌜ RefineOutcomeIs (stored1 (now (mesh .entry))) (selection1 (now (selection .entry))) (length (now (out .entry))) r (now (out .exit)) ⌝ }
 {
     refine_service::refine(mesh, selection, out)
 }
 
 #[no_mangle]
 pub extern "C" fn tmb_take_back<'a>(mesh: &'a [u8], request: &'a [u8], out: &mut [u8]) -> u32
-    ensures { λ r. ⌜ TakeBackOutcomeIs (now (mesh .entry)) (now (request .entry)) (length (now (out .entry))) r (now (out .exit)) ⌝ }
+    ensures { λ r. ⌜ TakeBackOutcomeIs (stored1 (now (mesh .entry))) (selection1 (now (request .entry))) (length (now (out .entry))) r (now (out .exit)) ⌝ }
 {
     takeback_service::take_back(mesh, request, out)
 }

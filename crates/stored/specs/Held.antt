@@ -16,79 +16,79 @@ use Rattle.stored.specs.declared.Table.{Table}
 use Rattle.stored.specs.Layout.{heldIn, baseInto, grownInto}
 
 -- Each entry lies within its slice.
-pub record Room (w : ℕ) (t : Table) (base grown : List ℕ) : Type 0 where
-  pub inBase : (i : ℕ) → i < t .end → i < t .count → t .base + w * i + w ≤ length base
-  pub inGrowth : (i : ℕ) → i < t .end → t .count ≤ i → t .grown + w * (i - t .count) + w ≤ length grown
+pub record Room (t : Table) (base grown : List ℕ) : Type 0 where
+  pub inBase : (i : ℕ) → i < t .end → i < t .count → t .base + t .width * i + t .width ≤ length base
+  pub inGrowth : (i : ℕ) → i < t .end → t .count ≤ i → t .grown + t .width * (i - t .count) + t .width ≤ length grown
 
 -- Each entry of t ends where the entries of u have not begun.
-pub record Before (w : ℕ) (t u : Table) : Type 0 where
-  pub inBase : (i : ℕ) → i < t .end → i < t .count → t .base + w * i + w ≤ u .base
-  pub inGrowth : (i : ℕ) → i < t .end → t .count ≤ i → t .grown + w * (i - t .count) + w ≤ u .grown
+pub record Before (t u : Table) : Type 0 where
+  pub inBase : (i : ℕ) → i < t .end → i < t .count → t .base + t .width * i + t .width ≤ u .base
+  pub inGrowth : (i : ℕ) → i < t .end → t .count ≤ i → t .grown + t .width * (i - t .count) + t .width ≤ u .grown
 
 -- ---- where an entry stands
 
-module _ (w : ℕ) (t : Table) (base grown : List ℕ) (i : ℕ) where
-  pub held-base : i < t .end → i < t .count → heldIn w t base grown i ≡ take w (drop (w * i) (drop (t .base) base))
+module _ (t : Table) (base grown : List ℕ) (i : ℕ) where
+  pub held-base : i < t .end → i < t .count → heldIn t base grown i ≡ take (t .width) (drop (t .width * i) (drop (t .base) base))
   unfolding heldIn
   held-base e c = rw (lt-ltb i (t .end) e, lt-ltb i (t .count) c)
 
-  pub held-growth : i < t .end → t .count ≤ i → heldIn w t base grown i ≡ take w (drop (w * (i - t .count)) (drop (t .grown) grown))
+  pub held-growth : i < t .end → t .count ≤ i → heldIn t base grown i ≡ take (t .width) (drop (t .width * (i - t .count)) (drop (t .grown) grown))
   unfolding heldIn
   held-growth e c = rw (lt-ltb i (t .end) e, le-ltb i (t .count) c)
 
-  pub held-none : t .end ≤ i → heldIn w t base grown i ≡ []
+  pub held-none : t .end ≤ i → heldIn t base grown i ≡ []
   unfolding heldIn
   held-none e = rw (le-ltb i (t .end) e)
 
 -- Two tables of as many entries hold the same where they do below their end.
-pub same-held : (w : ℕ) (t u : Table) (a b c d : List ℕ) → t .end ≡ u .end → ((i : ℕ) → i < t .end → heldIn w t a b i ≡ heldIn w u c d i) → (i : ℕ) → heldIn w t a b i ≡ heldIn w u c d i
-same-held w t u a b c d ends same i =
+pub same-held : (t u : Table) (a b c d : List ℕ) → t .end ≡ u .end → ((i : ℕ) → i < t .end → heldIn t a b i ≡ heldIn u c d i) → (i : ℕ) → heldIn t a b i ≡ heldIn u c d i
+same-held t u a b c d ends same i =
     ⊎-elim
     (λ l. same i (ltb-true i (t .end) l))
-    (λ g. let e = ltb-false i (t .end) g in held-none w t a b i e ∙ sym (held-none w u c d i (omega arith)))
+    (λ g. let e = ltb-false i (t .end) g in held-none t a b i e ∙ sym (held-none u c d i (omega arith)))
     (either (ltb i (t .end)))
 
 -- ---- where an entry is written
 
-module _ (w : ℕ) (t : Table) (s : List ℕ) (i : ℕ) (bytes : List ℕ) where
-  pub into-base : i < t .end → i < t .count → sets s (t .base + w * i) bytes ≡ baseInto w t s i bytes
+module _ (t : Table) (s : List ℕ) (i : ℕ) (bytes : List ℕ) where
+  pub into-base : i < t .end → i < t .count → sets s (t .base + t .width * i) bytes ≡ baseInto t s i bytes
   unfolding baseInto
   into-base e c = rw (lt-ltb i (t .end) e, lt-ltb i (t .count) c)
 
-  pub not-into-base : t .count ≤ i → s ≡ baseInto w t s i bytes
+  pub not-into-base : t .count ≤ i → s ≡ baseInto t s i bytes
   unfolding baseInto
   not-into-base c = rw (le-ltb i (t .count) c, and-false (ltb i (t .end)))
 
-  pub into-growth : i < t .end → t .count ≤ i → sets s (t .grown + w * (i - t .count)) bytes ≡ grownInto w t s i bytes
+  pub into-growth : i < t .end → t .count ≤ i → sets s (t .grown + t .width * (i - t .count)) bytes ≡ grownInto t s i bytes
   unfolding grownInto
   into-growth e c = rw (lt-ltb i (t .end) e, le-leb (t .count) i c)
 
-  pub not-into-growth : i < t .count → s ≡ grownInto w t s i bytes
+  pub not-into-growth : i < t .count → s ≡ grownInto t s i bytes
   unfolding grownInto
   not-into-growth c = rw (lt-leb (t .count) i c, and-false (ltb i (t .end)))
 
-  pub past-end-base : t .end ≤ i → s ≡ baseInto w t s i bytes
+  pub past-end-base : t .end ≤ i → s ≡ baseInto t s i bytes
   unfolding baseInto
   past-end-base e = rw (le-ltb i (t .end) e)
 
-  pub past-end-growth : t .end ≤ i → s ≡ grownInto w t s i bytes
+  pub past-end-growth : t .end ≤ i → s ≡ grownInto t s i bytes
   unfolding grownInto
   past-end-growth e = rw (le-ltb i (t .end) e)
 
-  pub base-length : length (baseInto w t s i bytes) ≡ length s
+  pub base-length : length (baseInto t s i bytes) ≡ length s
   unfolding baseInto
   base-length = go (ltb i (t .end) && ltb i (t .count))
     where
-      go : (b : Bool) → length (cond b (sets s (t .base + w * i) bytes) s) ≡ length s
-      go true = length-sets s (t .base + w * i) bytes
+      go : (b : Bool) → length (cond b (sets s (t .base + t .width * i) bytes) s) ≡ length s
+      go true = length-sets s (t .base + t .width * i) bytes
       go false = refl
 
-  pub growth-length : length (grownInto w t s i bytes) ≡ length s
+  pub growth-length : length (grownInto t s i bytes) ≡ length s
   unfolding grownInto
   growth-length = go (ltb i (t .end) && leb (t .count) i)
     where
-      go : (b : Bool) → length (cond b (sets s (t .grown + w * (i - t .count)) bytes) s) ≡ length s
-      go true = length-sets s (t .grown + w * (i - t .count)) bytes
+      go : (b : Bool) → length (cond b (sets s (t .grown + t .width * (i - t .count)) bytes) s) ≡ length s
+      go true = length-sets s (t .grown + t .width * (i - t .count)) bytes
       go false = refl
 
 -- ---- what is read after an entry was written
@@ -121,69 +121,69 @@ module _ (s : List ℕ) (w from : ℕ) where
       next : (a b : ℕ) → a < b → w * a + w ≤ w * b
       next a b l = rw (← mul-suc w a) (mul-le-mul-left w l)
 
-module _ (w : ℕ) (t : Table) (base grown : List ℕ) (i : ℕ) (bytes : List ℕ) (wide : length bytes ≡ w) where
+module _ (t : Table) (base grown : List ℕ) (i : ℕ) (bytes : List ℕ) (wide : length bytes ≡ t .width) where
   -- the entry itself
-  pub held-same : Room w t base grown → i < t .end → heldIn w t (baseInto w t base i bytes) (grownInto w t grown i bytes) i ≡ bytes
+  pub held-same : Room t base grown → i < t .end → heldIn t (baseInto t base i bytes) (grownInto t grown i bytes) i ≡ bytes
   held-same room e =
       ⊎-elim
       (λ c. let l : i < t .count = ltb-true i (t .count) c in
-      held-base w t (baseInto w t base i bytes) (grownInto w t grown i bytes) i e l
-      ∙ ap (λ (s : List ℕ). part w (t .base) s (w * i)) (sym (into-base w t base i bytes e l))
-      ∙ part-same base w (t .base) (w * i) bytes wide (room .inBase i e l))
+      held-base t (baseInto t base i bytes) (grownInto t grown i bytes) i e l
+      ∙ ap (λ (s : List ℕ). part (t .width) (t .base) s (t .width * i)) (sym (into-base t base i bytes e l))
+      ∙ part-same base (t .width) (t .base) (t .width * i) bytes wide (room .inBase i e l))
       (λ c. let l : t .count ≤ i = ltb-false i (t .count) c in
-      held-growth w t (baseInto w t base i bytes) (grownInto w t grown i bytes) i e l
-      ∙ ap (λ (s : List ℕ). part w (t .grown) s (w * (i - t .count))) (sym (into-growth w t grown i bytes e l))
-      ∙ part-same grown w (t .grown) (w * (i - t .count)) bytes wide (room .inGrowth i e l))
+      held-growth t (baseInto t base i bytes) (grownInto t grown i bytes) i e l
+      ∙ ap (λ (s : List ℕ). part (t .width) (t .grown) s (t .width * (i - t .count))) (sym (into-growth t grown i bytes e l))
+      ∙ part-same grown (t .width) (t .grown) (t .width * (i - t .count)) bytes wide (room .inGrowth i e l))
       (either (ltb i (t .count)))
 
-  base-other : (j : ℕ) → j ≢ i → part w (t .base) (baseInto w t base i bytes) (w * j) ≡ part w (t .base) base (w * j)
+  base-other : (j : ℕ) → j ≢ i → part (t .width) (t .base) (baseInto t base i bytes) (t .width * j) ≡ part (t .width) (t .base) base (t .width * j)
   unfolding baseInto
   base-other j ne = go (ltb i (t .end) && ltb i (t .count))
     where
-      go : (b : Bool) → part w (t .base) (cond b (sets base (t .base + w * i) bytes) base) (w * j) ≡ part w (t .base) base (w * j)
-      go true = part-other base w (t .base) i j bytes wide ne
+      go : (b : Bool) → part (t .width) (t .base) (cond b (sets base (t .base + t .width * i) bytes) base) (t .width * j) ≡ part (t .width) (t .base) base (t .width * j)
+      go true = part-other base (t .width) (t .base) i j bytes wide ne
       go false = refl
 
-  growth-other : (j : ℕ) → t .count ≤ j → j ≢ i → part w (t .grown) (grownInto w t grown i bytes) (w * (j - t .count)) ≡ part w (t .grown) grown (w * (j - t .count))
+  growth-other : (j : ℕ) → t .count ≤ j → j ≢ i → part (t .width) (t .grown) (grownInto t grown i bytes) (t .width * (j - t .count)) ≡ part (t .width) (t .grown) grown (t .width * (j - t .count))
   unfolding grownInto
   growth-other j c ne = go (ltb i (t .end) && leb (t .count) i) (λ h. leb-true (t .count) i (and-right (ltb i (t .end)) (leb (t .count) i) h))
     where
-      go : (b : Bool) → (b ≡ true → t .count ≤ i) → part w (t .grown) (cond b (sets grown (t .grown + w * (i - t .count)) bytes) grown) (w * (j - t .count)) ≡ part w (t .grown) grown (w * (j - t .count))
-      go true h = let d : t .count ≤ i = h refl in part-other grown w (t .grown) (i - t .count) (j - t .count) bytes wide (λ e. ne (omega arith))
+      go : (b : Bool) → (b ≡ true → t .count ≤ i) → part (t .width) (t .grown) (cond b (sets grown (t .grown + t .width * (i - t .count)) bytes) grown) (t .width * (j - t .count)) ≡ part (t .width) (t .grown) grown (t .width * (j - t .count))
+      go true h = let d : t .count ≤ i = h refl in part-other grown (t .width) (t .grown) (i - t .count) (j - t .count) bytes wide (λ e. ne (omega arith))
       go false h = refl
 
   -- every other entry
-  pub held-other : (j : ℕ) → j ≢ i → heldIn w t (baseInto w t base i bytes) (grownInto w t grown i bytes) j ≡ heldIn w t base grown j
+  pub held-other : (j : ℕ) → j ≢ i → heldIn t (baseInto t base i bytes) (grownInto t grown i bytes) j ≡ heldIn t base grown j
   unfolding heldIn
   held-other j ne = go (ltb j (t .end)) (ltb j (t .count)) (ltb-false j (t .count))
     where
       go : (e c : Bool) → (c ≡ false → t .count ≤ j) →
-          cond e (cond c (part w (t .base) (baseInto w t base i bytes) (w * j)) (part w (t .grown) (grownInto w t grown i bytes) (w * (j - t .count)))) []
-          ≡ cond e (cond c (part w (t .base) base (w * j)) (part w (t .grown) grown (w * (j - t .count)))) []
+          cond e (cond c (part (t .width) (t .base) (baseInto t base i bytes) (t .width * j)) (part (t .width) (t .grown) (grownInto t grown i bytes) (t .width * (j - t .count)))) []
+          ≡ cond e (cond c (part (t .width) (t .base) base (t .width * j)) (part (t .width) (t .grown) grown (t .width * (j - t .count)))) []
       go false c h = refl
       go true true h = base-other j ne
       go true false h = growth-other j (h refl) ne
 
 -- every entry of a table that stands before, after an entry of u was written
-module _ (w v : ℕ) (t u : Table) (apart : Before w t u) (base grown : List ℕ) (i : ℕ) (bytes : List ℕ) where
-  pub held-before : (j : ℕ) → heldIn w t (baseInto v u base i bytes) (grownInto v u grown i bytes) j ≡ heldIn w t base grown j
+module _ (t u : Table) (apart : Before t u) (base grown : List ℕ) (i : ℕ) (bytes : List ℕ) where
+  pub held-before : (j : ℕ) → heldIn t (baseInto u base i bytes) (grownInto u grown i bytes) j ≡ heldIn t base grown j
   unfolding heldIn baseInto grownInto
   held-before j =
       go (ltb j (t .end)) (ltb j (t .count)) (ltb i (u .end) && ltb i (u .count)) (ltb i (u .end) && leb (u .count) i)
       (ltb-true j (t .end)) (ltb-true j (t .count)) (ltb-false j (t .count))
     where
       go : (e c b g : Bool) → (e ≡ true → j < t .end) → (c ≡ true → j < t .count) → (c ≡ false → t .count ≤ j) →
-          cond e (cond c (part w (t .base) (cond b (sets base (u .base + v * i) bytes) base) (w * j)) (part w (t .grown) (cond g (sets grown (u .grown + v * (i - u .count)) bytes) grown) (w * (j - t .count)))) []
-          ≡ cond e (cond c (part w (t .base) base (w * j)) (part w (t .grown) grown (w * (j - t .count)))) []
+          cond e (cond c (part (t .width) (t .base) (cond b (sets base (u .base + u .width * i) bytes) base) (t .width * j)) (part (t .width) (t .grown) (cond g (sets grown (u .grown + u .width * (i - u .count)) bytes) grown) (t .width * (j - t .count)))) []
+          ≡ cond e (cond c (part (t .width) (t .base) base (t .width * j)) (part (t .width) (t .grown) grown (t .width * (j - t .count)))) []
       go false c b g p q r = refl
-      go true true true g p q r = let l = apart .inBase j (p refl) (q refl) in part-before base w (t .base) (w * j) (u .base + v * i) bytes (omega arith)
+      go true true true g p q r = let l = apart .inBase j (p refl) (q refl) in part-before base (t .width) (t .base) (t .width * j) (u .base + u .width * i) bytes (omega arith)
       go true true false g p q r = refl
-      go true false b true p q r = let l = apart .inGrowth j (p refl) (r refl) in part-before grown w (t .grown) (w * (j - t .count)) (u .grown + v * (i - u .count)) bytes (omega arith)
+      go true false b true p q r = let l = apart .inGrowth j (p refl) (r refl) in part-before grown (t .width) (t .grown) (t .width * (j - t .count)) (u .grown + u .width * (i - u .count)) bytes (omega arith)
       go true false b false p q r = refl
 
 -- every entry of a table that stands after, after an entry of t was written
-module _ (w v : ℕ) (t u : Table) (apart : Before w t u) (base grown : List ℕ) (i : ℕ) (bytes : List ℕ) (wide : length bytes ≡ w) where
-  pub held-after : (j : ℕ) → heldIn v u (baseInto w t base i bytes) (grownInto w t grown i bytes) j ≡ heldIn v u base grown j
+module _ (t u : Table) (apart : Before t u) (base grown : List ℕ) (i : ℕ) (bytes : List ℕ) (wide : length bytes ≡ t .width) where
+  pub held-after : (j : ℕ) → heldIn u (baseInto t base i bytes) (grownInto t grown i bytes) j ≡ heldIn u base grown j
   unfolding heldIn baseInto grownInto
   held-after j =
       go (ltb j (u .end)) (ltb j (u .count)) (ltb i (t .end) && ltb i (t .count)) (ltb i (t .end) && leb (t .count) i)
@@ -191,10 +191,10 @@ module _ (w v : ℕ) (t u : Table) (apart : Before w t u) (base grown : List ℕ
       (λ h. (ltb-true i (t .end) (and-left (ltb i (t .end)) (leb (t .count) i) h), leb-true (t .count) i (and-right (ltb i (t .end)) (leb (t .count) i) h)))
     where
       go : (e c b g : Bool) → (b ≡ true → (i < t .end) × (i < t .count)) → (g ≡ true → (i < t .end) × (t .count ≤ i)) →
-          cond e (cond c (part v (u .base) (cond b (sets base (t .base + w * i) bytes) base) (v * j)) (part v (u .grown) (cond g (sets grown (t .grown + w * (i - t .count)) bytes) grown) (v * (j - u .count)))) []
-          ≡ cond e (cond c (part v (u .base) base (v * j)) (part v (u .grown) grown (v * (j - u .count)))) []
+          cond e (cond c (part (u .width) (u .base) (cond b (sets base (t .base + t .width * i) bytes) base) (u .width * j)) (part (u .width) (u .grown) (cond g (sets grown (t .grown + t .width * (i - t .count)) bytes) grown) (u .width * (j - u .count)))) []
+          ≡ cond e (cond c (part (u .width) (u .base) base (u .width * j)) (part (u .width) (u .grown) grown (u .width * (j - u .count)))) []
       go false c b g p q = refl
-      go true true true g p q = let l = apart .inBase i (p refl .0) (p refl .1) in part-after base v (u .base) (v * j) (t .base + w * i) bytes (omega arith)
+      go true true true g p q = let l = apart .inBase i (p refl .0) (p refl .1) in part-after base (u .width) (u .base) (u .width * j) (t .base + t .width * i) bytes (omega arith)
       go true true false g p q = refl
-      go true false b true p q = let l = apart .inGrowth i (q refl .0) (q refl .1) in part-after grown v (u .grown) (v * (j - u .count)) (t .grown + w * (i - t .count)) bytes (omega arith)
+      go true false b true p q = let l = apart .inGrowth i (q refl .0) (q refl .1) in part-after grown (u .width) (u .grown) (u .width * (j - u .count)) (t .grown + t .width * (i - t .count)) bytes (omega arith)
       go true false b false p q = refl

@@ -1,26 +1,36 @@
-// The vertices and records of a mesh's tables, read one by one: whole, or one field alone.
+// The vertices and records of a mesh's tables in every format, read one by one: whole, or one field alone.
 use grid::Place;
 use piece::Ends;
 use piece::Piece;
+use stored::Format;
 use stored::Layout;
 use stored::Record;
 use stored::Table;
 use stored::Vertex;
 ghost use mathlib.Core.Path.{_≡_};
 ghost use Prim.Native.Nat.{_+_, _*_, _≤_, _<_};
-ghost use lib.ListN.{length, take, drop};
+ghost use mathlib.Core.List.{[], _∷_};
+ghost use lib.ListN.{length, getD, take, drop};
 ghost use Rattle.piece.specs.Shape.{shapeOf, mark};
 ghost use Rattle.piece.specs.Ends.{cornerAt};
 ghost use Rattle.stored.specs.Layout.{
+  version1,
   u16At,
+  u32At,
+  numberWidth,
+  numberAt,
+  vertexWidth,
+  recordWidth,
   placeOf,
   orNone,
   heldIn,
   vertexFrom,
   vertexIn,
   parentsOf,
+  edgeAt,
   cornersFrom,
   marksFrom,
+  materialFrom,
   recordFrom,
   recordIn,
 };
@@ -43,33 +53,31 @@ fn entry_from(s: &[u8], from: usize, wide: usize, i: usize) -> &[u8]
 }
 
 // The part of the base slice or of the growth slice that holds entry i, chosen by its number against the count; past the end nothing.
-fn held<'a>(width: u32, t: Table, base: &'a [u8], grown: &'a [u8], i: usize) -> &'a [u8]
-    ensures { λ r. ⌜ now r ≡ heldIn width t (now (base .entry)) (now (grown .entry)) i ⌝ }
+pub fn held<'a>(t: Table, base: &'a [u8], grown: &'a [u8], i: usize) -> &'a [u8]
+    ensures { λ r. ⌜ now r ≡ heldIn t (now (base .entry)) (now (grown .entry)) i ⌝ }
 {
     if t.end as usize <= i {
         return &base[..0];
     }
     if i < t.count as usize {
-        return entry_from(base, t.base, width as usize, i);
+        return entry_from(base, t.base, t.width as usize, i);
     }
     let j = i - t.count as usize;
-    entry_from(grown, t.grown, width as usize, j)
+    entry_from(grown, t.grown, t.width as usize, j)
 }
 
 fn vertex_held<'a>(l: Layout, base: &'a [u8], grown: &'a [u8], i: usize) -> &'a [u8]
-    ensures { λ r. ⌜ now r ≡ heldIn (l .format .«vertex_width») (l .vertices) (now (base .entry)) (now (grown .entry)) i ⌝ }
+    ensures { λ r. ⌜ now r ≡ heldIn (l .vertices) (now (base .entry)) (now (grown .entry)) i ⌝ }
 {
-    let format = l.format;
     let vertices = l.vertices;
-    held(format.vertex_width, vertices, base, grown, i)
+    held(vertices, base, grown, i)
 }
 
 fn record_held<'a>(l: Layout, base: &'a [u8], grown: &'a [u8], i: usize) -> &'a [u8]
-    ensures { λ r. ⌜ now r ≡ heldIn (l .format .«record_width») (l .records) (now (base .entry)) (now (grown .entry)) i ⌝ }
+    ensures { λ r. ⌜ now r ≡ heldIn (l .records) (now (base .entry)) (now (grown .entry)) i ⌝ }
 {
-    let format = l.format;
     let records = l.records;
-    held(format.record_width, records, base, grown, i)
+    held(records, base, grown, i)
 }
 
 // The number of two bytes that are there, with no test.
@@ -79,6 +87,16 @@ fn two_of(s: &[u8], at: usize) -> u32
     ensures { λ r. ⌜ r < 65536 ⌝ }
 {
     slices::pair(s[at], s[at + 1])
+}
+
+// That of four bytes that are there.
+fn four_of(s: &[u8], at: usize) -> u32
+    requires { ⌜ at + 3 < length (now s) ⌝ }
+    ensures { λ r. ⌜ r ≡ u32At (now (s .entry)) at ⌝ }
+{
+    let low = two_of(s, at);
+    let high = two_of(s, at + 2);
+    low + 65536 * high
 }
 
 // A coordinate, as its place.
@@ -95,9 +113,9 @@ fn place(s: &[u8], at: usize) -> u16
     place_of(slices::two(s, at))
 }
 
-// A vertex or record number, which may be none.
+// A vertex or record number of two bytes, which may be none.
 fn or_none(n: u32) -> u32
-    ensures { λ r. ⌜ r ≡ orNone n ⌝ }
+    ensures { λ r. ⌜ r ≡ orNone version1 n ⌝ }
 {
     if n == stored::STORED_NONE {
         stored::NONE
@@ -106,15 +124,30 @@ fn or_none(n: u32) -> u32
     }
 }
 
-fn number_or_none(s: &[u8], at: usize) -> u32
-    ensures { λ r. ⌜ r ≡ orNone (u16At (now (s .entry)) at) ⌝ }
+// A vertex or record number of the format: of four bytes it is read as it is, none or not.
+fn number_or_none(format: Format, s: &[u8], at: usize) -> u32
+    ensures { λ r. ⌜ r ≡ orNone format (numberAt format (now (s .entry)) at) ⌝ }
 {
+    if format.wide {
+        return slices::four(s, at);
+    }
     or_none(slices::two(s, at))
 }
 
-// Where a vertex stands whose bytes may end early, coordinate by coordinate.
+// The same where its bytes are all there, with no test.
+fn whole_number(format: Format, s: &[u8], at: usize) -> u32
+    requires { ⌜ at + numberWidth format ≤ length (now s) ⌝ }
+    ensures { λ r. ⌜ r ≡ orNone format (numberAt format (now (s .entry)) at) ⌝ }
+{
+    if format.wide {
+        return four_of(s, at);
+    }
+    or_none(two_of(s, at))
+}
+
+// Where a vertex stands, in every format alike, whose bytes may end early: coordinate by coordinate.
 fn short_place(entry: &[u8]) -> Place
-    ensures { λ r. ⌜ r ≡ vertexFrom (now (entry .entry)) .place ⌝ }
+    ensures { λ r. ⌜ r ≡ vertexFrom version1 (now (entry .entry)) .place ⌝ }
 {
     Place {
         x: place(entry, 0),
@@ -126,7 +159,7 @@ fn short_place(entry: &[u8]) -> Place
 // The same where the three coordinates are all there.
 fn whole_place(entry: &[u8]) -> Place
     requires { ⌜ 6 ≤ length (now entry) ⌝ }
-    ensures { λ r. ⌜ r ≡ vertexFrom (now (entry .entry)) .place ⌝ }
+    ensures { λ r. ⌜ r ≡ vertexFrom version1 (now (entry .entry)) .place ⌝ }
 {
     Place {
         x: place_of(two_of(entry, 0)),
@@ -136,7 +169,7 @@ fn whole_place(entry: &[u8]) -> Place
 }
 
 fn place_from(entry: &[u8]) -> Place
-    ensures { λ r. ⌜ r ≡ vertexFrom (now (entry .entry)) .place ⌝ }
+    ensures { λ r. ⌜ r ≡ vertexFrom version1 (now (entry .entry)) .place ⌝ }
 {
     if entry.len() < 6 {
         return short_place(entry);
@@ -144,21 +177,77 @@ fn place_from(entry: &[u8]) -> Place
     whole_place(entry)
 }
 
-fn vertex_from(entry: &[u8]) -> Vertex
-    ensures { λ r. ⌜ r ≡ vertexFrom (now (entry .entry)) ⌝ }
+// A vertex whose bytes may end early, field by field.
+fn short_vertex(format: Format, entry: &[u8]) -> Vertex
+    ensures { λ r. ⌜ r ≡ vertexFrom format (now (entry .entry)) ⌝ }
 {
-    let place = place_from(entry);
+    let place = short_place(entry);
     Vertex {
         place: place,
-        p: number_or_none(entry, 6),
-        q: number_or_none(entry, 8),
+        p: number_or_none(format, entry, 6),
+        q: number_or_none(format, entry, 6 + stored::number_width(format)),
     }
+}
+
+// Parents that are all there.
+fn whole_parents(format: Format, entry: &[u8]) -> Ends
+    requires { ⌜ vertexWidth format ≤ length (now entry) ⌝ }
+    ensures { λ r. ⌜ r ≡ parentsOf (vertexFrom format (now (entry .entry))) ⌝ }
+{
+    if format.wide {
+        return Ends {
+            lower: four_of(entry, 6),
+            higher: four_of(entry, 10),
+        };
+    }
+    Ends {
+        lower: or_none(two_of(entry, 6)),
+        higher: or_none(two_of(entry, 8)),
+    }
+}
+
+// A vertex that is all there.
+fn whole_vertex(format: Format, entry: &[u8]) -> Vertex
+    requires { ⌜ vertexWidth format ≤ length (now entry) ⌝ }
+    ensures { λ r. ⌜ r ≡ vertexFrom format (now (entry .entry)) ⌝ }
+{
+    let place = whole_place(entry);
+    let parents = whole_parents(format, entry);
+    Vertex {
+        place: place,
+        p: parents.lower,
+        q: parents.higher,
+    }
+}
+
+fn vertex_from(format: Format, entry: &[u8]) -> Vertex
+    ensures { λ r. ⌜ r ≡ vertexFrom format (now (entry .entry)) ⌝ }
+{
+    if entry.len() < stored::vertex_width(format) {
+        return short_vertex(format, entry);
+    }
+    whole_vertex(format, entry)
+}
+
+// Parents alone: where bytes are missing, by the whole vertex, so that the usual way stays short.
+fn parents_from(format: Format, entry: &[u8]) -> Ends
+    ensures { λ r. ⌜ r ≡ parentsOf (vertexFrom format (now (entry .entry))) ⌝ }
+{
+    if entry.len() < stored::vertex_width(format) {
+        let vertex = short_vertex(format, entry);
+        return Ends {
+            lower: vertex.p,
+            higher: vertex.q,
+        };
+    }
+    whole_parents(format, entry)
 }
 
 pub fn vertex_in<'a>(l: Layout, base: &'a [u8], grown: &'a [u8], i: usize) -> Vertex
     ensures { λ r. ⌜ r ≡ vertexIn l (now (base .entry)) (now (grown .entry)) i ⌝ }
 {
-    vertex_from(vertex_held(l, base, grown, i))
+    let format = l.format;
+    vertex_from(format, vertex_held(l, base, grown, i))
 }
 
 // Where a vertex stands, alone.
@@ -172,29 +261,27 @@ pub fn place_in<'a>(l: Layout, base: &'a [u8], grown: &'a [u8], i: usize) -> Pla
 pub fn parents_in<'a>(l: Layout, base: &'a [u8], grown: &'a [u8], i: usize) -> Ends
     ensures { λ r. ⌜ r ≡ parentsOf (vertexIn l (now (base .entry)) (now (grown .entry)) i) ⌝ }
 {
-    let entry = vertex_held(l, base, grown, i);
-    Ends {
-        lower: number_or_none(entry, 6),
-        higher: number_or_none(entry, 8),
-    }
+    let format = l.format;
+    parents_from(format, vertex_held(l, base, grown, i))
 }
 
 // The corners of a record whose bytes may end early, one by one.
-fn short_corners(entry: &[u8]) -> [u32; 4]
-    ensures { λ r. ⌜ r ≡ cornersFrom (now (entry .entry)) ⌝ }
+fn short_corners(format: Format, entry: &[u8]) -> [u32; 4]
+    ensures { λ r. ⌜ r ≡ cornersFrom format (now (entry .entry)) ⌝ }
 {
+    let wide = stored::number_width(format);
     [
-        number_or_none(entry, 0),
-        number_or_none(entry, 2),
-        number_or_none(entry, 4),
-        number_or_none(entry, 6),
+        number_or_none(format, entry, 0),
+        number_or_none(format, entry, wide),
+        number_or_none(format, entry, wide * 2),
+        number_or_none(format, entry, wide * 3),
     ]
 }
 
-// Corners that are all there.
-fn whole_corners(entry: &[u8]) -> [u32; 4]
+// Corners of two bytes each that are all there.
+fn narrow_corners(entry: &[u8]) -> [u32; 4]
     requires { ⌜ 8 ≤ length (now entry) ⌝ }
-    ensures { λ r. ⌜ r ≡ cornersFrom (now (entry .entry)) ⌝ }
+    ensures { λ r. ⌜ r ≡ cornersFrom version1 (now (entry .entry)) ⌝ }
 {
     [
         or_none(two_of(entry, 0)),
@@ -204,96 +291,169 @@ fn whole_corners(entry: &[u8]) -> [u32; 4]
     ]
 }
 
-fn corners_from(entry: &[u8]) -> [u32; 4]
-    ensures { λ r. ⌜ r ≡ cornersFrom (now (entry .entry)) ⌝ }
-{
-    if entry.len() < 8 {
-        return short_corners(entry);
-    }
-    whole_corners(entry)
-}
-
-fn marks_from(entry: &[u8]) -> [u8; 4]
-    ensures { λ r. ⌜ r ≡ marksFrom (now (entry .entry)) ⌝ }
+// Corners of four bytes each that are all there, as they are.
+fn wide_corners(entry: &[u8]) -> [u32; 4]
+    requires { ⌜ 16 ≤ length (now entry) ⌝ }
+    ensures { λ r. ⌜ r ≡ u32At (now (entry .entry)) 0 ∷ u32At (now (entry .entry)) 4 ∷ u32At (now (entry .entry)) 8 ∷ u32At (now (entry .entry)) 12 ∷ [] ⌝ }
 {
     [
-        slices::byte(entry, stored::MARKS_AT),
-        slices::byte(entry, stored::MARKS_AT + 1),
-        slices::byte(entry, stored::MARKS_AT + 2),
-        slices::byte(entry, stored::MARKS_AT + 3),
+        four_of(entry, 0),
+        four_of(entry, 4),
+        four_of(entry, 8),
+        four_of(entry, 12),
     ]
 }
 
-// A record whose bytes may end early, field by field.
-fn short_record(entry: &[u8]) -> Record
-    ensures { λ r. ⌜ r ≡ recordFrom (now (entry .entry)) ⌝ }
+fn whole_corners(format: Format, entry: &[u8]) -> [u32; 4]
+    requires { ⌜ edgeAt format ≤ length (now entry) ⌝ }
+    ensures { λ r. ⌜ r ≡ cornersFrom format (now (entry .entry)) ⌝ }
 {
-    let corners = short_corners(entry);
-    let edge = slices::byte(entry, stored::EDGE_AT);
-    let marks = marks_from(entry);
-    let flag = slices::byte(entry, stored::FLAG_AT);
-    let generation = slices::byte(entry, stored::GENERATION_AT);
+    if format.wide {
+        return wide_corners(entry);
+    }
+    narrow_corners(entry)
+}
+
+fn corners_from(format: Format, entry: &[u8]) -> [u32; 4]
+    ensures { λ r. ⌜ r ≡ cornersFrom format (now (entry .entry)) ⌝ }
+{
+    if entry.len() < stored::edge_at(format) {
+        return short_corners(format, entry);
+    }
+    whole_corners(format, entry)
+}
+
+// The corner in slot k, alone: where bytes are missing, by all four.
+fn corner_from(format: Format, entry: &[u8], k: u8) -> u32
+    requires { ⌜ k < 4 ⌝ }
+    ensures { λ r. ⌜ r ≡ getD (cornersFrom format (now (entry .entry))) k 0 ⌝ }
+{
+    if entry.len() < stored::edge_at(format) {
+        return piece::corner_at(short_corners(format, entry), k);
+    }
+    whole_number(format, entry, stored::number_width(format) * (k as usize))
+}
+
+fn marks_from(format: Format, entry: &[u8]) -> [u8; 4]
+    ensures { λ r. ⌜ r ≡ marksFrom format (now (entry .entry)) ⌝ }
+{
+    let at = stored::edge_at(format);
+    [
+        slices::byte(entry, at + 1),
+        slices::byte(entry, at + 2),
+        slices::byte(entry, at + 3),
+        slices::byte(entry, at + 4),
+    ]
+}
+
+// The material, 0 where the format has none.
+fn short_material(format: Format, entry: &[u8]) -> u8
+    ensures { λ r. ⌜ r ≡ materialFrom format (now (entry .entry)) ⌝ }
+{
+    if format.material {
+        return slices::byte(
+            entry,
+            stored::edge_at(format) + (7 + stored::number_width(format)),
+        );
+    }
+    0
+}
+
+// The same of a record that is all there.
+fn whole_material(format: Format, entry: &[u8]) -> u8
+    requires { ⌜ recordWidth format ≤ length (now entry) ⌝ }
+    ensures { λ r. ⌜ r ≡ materialFrom format (now (entry .entry)) ⌝ }
+{
+    if format.material {
+        return entry[stored::edge_at(format) + (7 + stored::number_width(format))];
+    }
+    0
+}
+
+// A record whose bytes may end early, field by field.
+fn short_record(format: Format, entry: &[u8]) -> Record
+    ensures { λ r. ⌜ r ≡ recordFrom format (now (entry .entry)) ⌝ }
+{
+    let at = stored::edge_at(format);
+    let corners = short_corners(format, entry);
+    let edge = slices::byte(entry, at);
+    let marks = marks_from(format, entry);
+    let flag = slices::byte(entry, at + 5);
+    let generation = slices::byte(entry, at + 6);
+    let material = short_material(format, entry);
     let piece = Piece {
         corners: corners,
         edge: edge,
         marks: marks,
         flag: flag,
         generation: generation,
-        material: 0,
+        material: material,
     };
     Record {
         piece: piece,
-        first_child: number_or_none(entry, stored::FIRST_CHILD_AT),
+        first_child: number_or_none(format, entry, at + 7),
     }
 }
 
 // A record that is all there.
-fn whole_record(entry: &[u8]) -> Record
-    requires { ⌜ 17 ≤ length (now entry) ⌝ }
-    ensures { λ r. ⌜ r ≡ recordFrom (now (entry .entry)) ⌝ }
+fn whole_record(format: Format, entry: &[u8]) -> Record
+    requires { ⌜ recordWidth format ≤ length (now entry) ⌝ }
+    ensures { λ r. ⌜ r ≡ recordFrom format (now (entry .entry)) ⌝ }
 {
-    let corners = whole_corners(entry);
+    let at = stored::edge_at(format);
+    let corners = whole_corners(format, entry);
+    let material = whole_material(format, entry);
     let piece = Piece {
         corners: corners,
-        edge: entry[stored::EDGE_AT],
-        marks: [
-            entry[stored::MARKS_AT],
-            entry[stored::MARKS_AT + 1],
-            entry[stored::MARKS_AT + 2],
-            entry[stored::MARKS_AT + 3],
-        ],
-        flag: entry[stored::FLAG_AT],
-        generation: entry[stored::GENERATION_AT],
-        material: 0,
+        edge: entry[at],
+        marks: [entry[at + 1], entry[at + 2], entry[at + 3], entry[at + 4]],
+        flag: entry[at + 5],
+        generation: entry[at + 6],
+        material: material,
     };
     Record {
         piece: piece,
-        first_child: or_none(two_of(entry, stored::FIRST_CHILD_AT)),
+        first_child: whole_number(format, entry, at + 7),
     }
+}
+
+// The first child alone: where bytes are missing, by the whole record.
+fn first_child_from(format: Format, entry: &[u8]) -> u32
+    ensures { λ r. ⌜ r ≡ recordFrom format (now (entry .entry)) .«first_child» ⌝ }
+{
+    let at = stored::edge_at(format) + 7;
+    if entry.len() < at + stored::number_width(format) {
+        let record = short_record(format, entry);
+        return record.first_child;
+    }
+    whole_number(format, entry, at)
 }
 
 pub fn record_in<'a>(l: Layout, base: &'a [u8], grown: &'a [u8], i: usize) -> Record
     ensures { λ r. ⌜ r ≡ recordIn l (now (base .entry)) (now (grown .entry)) i ⌝ }
 {
+    let format = l.format;
     let entry = record_held(l, base, grown, i);
-    if entry.len() < stored::RECORD_WIDTH {
-        return short_record(entry);
+    if entry.len() < stored::record_width(format) {
+        return short_record(format, entry);
     }
-    whole_record(entry)
+    whole_record(format, entry)
 }
 
 // A record's fields, each alone: its corners, one of them, its refinement edge, its marks, one of them, flag, generation and first child.
 pub fn corners_in<'a>(l: Layout, base: &'a [u8], grown: &'a [u8], i: usize) -> [u32; 4]
     ensures { λ r. ⌜ r ≡ recordIn l (now (base .entry)) (now (grown .entry)) i .piece .corners ⌝ }
 {
-    corners_from(record_held(l, base, grown, i))
+    let format = l.format;
+    corners_from(format, record_held(l, base, grown, i))
 }
 
 pub fn corner_in<'a>(l: Layout, base: &'a [u8], grown: &'a [u8], i: usize, k: u8) -> u32
     ensures { λ r. ⌜ r ≡ cornerAt (recordIn l (now (base .entry)) (now (grown .entry)) i .piece) k ⌝ }
 {
+    let format = l.format;
     if k < 4 {
-        return number_or_none(record_held(l, base, grown, i), 2 * (k as usize));
+        return corner_from(format, record_held(l, base, grown, i), k);
     }
     0
 }
@@ -301,22 +461,25 @@ pub fn corner_in<'a>(l: Layout, base: &'a [u8], grown: &'a [u8], i: usize, k: u8
 pub fn edge_in<'a>(l: Layout, base: &'a [u8], grown: &'a [u8], i: usize) -> u8
     ensures { λ r. ⌜ r ≡ recordIn l (now (base .entry)) (now (grown .entry)) i .piece .edge ⌝ }
 {
-    slices::byte(record_held(l, base, grown, i), stored::EDGE_AT)
+    let format = l.format;
+    slices::byte(record_held(l, base, grown, i), stored::edge_at(format))
 }
 
 pub fn marks_in<'a>(l: Layout, base: &'a [u8], grown: &'a [u8], i: usize) -> [u8; 4]
     ensures { λ r. ⌜ r ≡ recordIn l (now (base .entry)) (now (grown .entry)) i .piece .marks ⌝ }
 {
-    marks_from(record_held(l, base, grown, i))
+    let format = l.format;
+    marks_from(format, record_held(l, base, grown, i))
 }
 
 pub fn mark_in<'a>(l: Layout, base: &'a [u8], grown: &'a [u8], i: usize, j: u8) -> u8
     ensures { λ r. ⌜ r ≡ mark (shapeOf (recordIn l (now (base .entry)) (now (grown .entry)) i .piece)) j ⌝ }
 {
+    let format = l.format;
     if j < 4 {
         return slices::byte(
             record_held(l, base, grown, i),
-            stored::MARKS_AT + (j as usize),
+            stored::edge_at(format) + (1 + (j as usize)),
         );
     }
     0
@@ -325,17 +488,20 @@ pub fn mark_in<'a>(l: Layout, base: &'a [u8], grown: &'a [u8], i: usize, j: u8) 
 pub fn flag_in<'a>(l: Layout, base: &'a [u8], grown: &'a [u8], i: usize) -> u8
     ensures { λ r. ⌜ r ≡ recordIn l (now (base .entry)) (now (grown .entry)) i .piece .flag ⌝ }
 {
-    slices::byte(record_held(l, base, grown, i), stored::FLAG_AT)
+    let format = l.format;
+    slices::byte(record_held(l, base, grown, i), stored::edge_at(format) + 5)
 }
 
 pub fn generation_in<'a>(l: Layout, base: &'a [u8], grown: &'a [u8], i: usize) -> u8
     ensures { λ r. ⌜ r ≡ recordIn l (now (base .entry)) (now (grown .entry)) i .piece .generation ⌝ }
 {
-    slices::byte(record_held(l, base, grown, i), stored::GENERATION_AT)
+    let format = l.format;
+    slices::byte(record_held(l, base, grown, i), stored::edge_at(format) + 6)
 }
 
 pub fn first_child_in<'a>(l: Layout, base: &'a [u8], grown: &'a [u8], i: usize) -> u32
     ensures { λ r. ⌜ r ≡ recordIn l (now (base .entry)) (now (grown .entry)) i .«first_child» ⌝ }
 {
-    number_or_none(record_held(l, base, grown, i), stored::FIRST_CHILD_AT)
+    let format = l.format;
+    first_child_from(format, record_held(l, base, grown, i))
 }

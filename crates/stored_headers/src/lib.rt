@@ -1,11 +1,27 @@
 // A stored mesh's header, and its length.
+use stored::Format;
 use stored::Header;
+use stored::Kind;
 ghost use mathlib.Core.Path.{_≡_};
-ghost use Rattle.stored.specs.Layout.{marked, rightMark, headerOf, roundAfter, nextRound, meshLength, rightLength};
+ghost use Prim.Native.Nat.{_+_, _*_, _<_};
+ghost use Rattle.stored.specs.Layout.{
+  numberAt,
+  vertexWidth,
+  recordWidth,
+  marked,
+  rightMark,
+  headerFrom,
+  roundAfter,
+  nextRound,
+  meshLength,
+  baseLength,
+  grownLength,
+  rightLength,
+};
 
-// Whether the first bytes are `TM`, this letter and version 1: a mesh's mark, and a selection's.
-pub fn marked_with(s: &[u8], letter: u8) -> bool
-    ensures { λ r. ⌜ r ≡ marked letter (now (s .entry)) ⌝ }
+// Whether the first bytes are `TM`, this letter and this version: a mesh's mark, and a selection's.
+pub fn marked_with(s: &[u8], letter: u8, version: u32) -> bool
+    ensures { λ r. ⌜ r ≡ marked letter version (now (s .entry)) ⌝ }
 {
     if slices::byte(s, 0) != b'T' {
         return false;
@@ -16,28 +32,39 @@ pub fn marked_with(s: &[u8], letter: u8) -> bool
     if slices::byte(s, 2) != letter {
         return false;
     }
-    slices::two(s, 3) == 1
+    slices::two(s, 3) == version
 }
 
-pub fn right_mark(mesh: &[u8]) -> bool
-    ensures { λ r. ⌜ r ≡ rightMark (now (mesh .entry)) ⌝ }
+pub fn right_mark(format: Format, mesh: &[u8]) -> bool
+    ensures { λ r. ⌜ r ≡ rightMark format (now (mesh .entry)) ⌝ }
 {
-    if marked_with(mesh, b'B') {
-        return slices::byte(mesh, 19) == 0;
+    if marked_with(mesh, b'B', stored::version_of(format)) {
+        return slices::byte(mesh, 11 + stored::number_width(format) * 4) == 0;
     }
     false
 }
 
-pub fn header_of(mesh: &[u8]) -> Header
-    ensures { λ r. ⌜ r ≡ headerOf (now (mesh .entry)) ⌝ }
+// A vertex or record number.
+pub fn number_at(format: Format, s: &[u8], at: usize) -> u32
+    ensures { λ r. ⌜ r ≡ numberAt format (now (s .entry)) at ⌝ }
 {
+    if format.wide {
+        return slices::four(s, at);
+    }
+    slices::two(s, at)
+}
+
+pub fn header_from(format: Format, mesh: &[u8]) -> Header
+    ensures { λ r. ⌜ r ≡ headerFrom format (now (mesh .entry)) ⌝ }
+{
+    let wide = stored::number_width(format);
     Header {
         job: slices::four(mesh, 5),
         round: slices::two(mesh, 9),
-        base_vertices: slices::two(mesh, 11),
-        vertices: slices::two(mesh, 13),
-        base_records: slices::two(mesh, 15),
-        records: slices::two(mesh, 17),
+        base_vertices: number_at(format, mesh, 11),
+        vertices: number_at(format, mesh, 11 + wide),
+        base_records: number_at(format, mesh, 11 + wide * 2),
+        records: number_at(format, mesh, 11 + wide * 3),
     }
 }
 
@@ -64,19 +91,46 @@ pub fn next_round(h: Header) -> Header
     }
 }
 
-pub fn mesh_length(vertices: u32, records: u32) -> usize
-    ensures { λ r. ⌜ r ≡ meshLength vertices records ⌝ }
+// The bytes of so many vertices and so many records.
+fn tables_length(format: Format, vertices: u32, records: u32) -> usize
+    ensures { λ r. ⌜ r ≡ vertexWidth format * vertices + recordWidth format * records ⌝ }
+    ensures { λ r. ⌜ r < 18446744073709551000 ⌝ }
 {
-    stored::HEADER_WIDTH
-        + stored::VERTEX_WIDTH * (vertices as usize)
-        + stored::RECORD_WIDTH * (records as usize)
+    stored::vertex_width(format) * (vertices as usize)
+        + stored::record_width(format) * (records as usize)
 }
 
-pub fn right_length(mesh: &[u8]) -> bool
-    ensures { λ r. ⌜ r ≡ rightLength (now (mesh .entry)) ⌝ }
+pub fn mesh_length(format: Format, vertices: u32, records: u32) -> usize
+    ensures { λ r. ⌜ r ≡ meshLength format vertices records ⌝ }
 {
-    if mesh.len() < stored::HEADER_WIDTH {
+    stored::header_width(format) + tables_length(format, vertices, records)
+}
+
+pub fn base_length(k: Kind, h: Header) -> usize
+    ensures { λ r. ⌜ r ≡ baseLength k h ⌝ }
+{
+    let vertices = stored::in_base(k.two, h.base_vertices, h.vertices);
+    let records = stored::in_base(k.two, h.base_records, h.records);
+    mesh_length(k.format, vertices, records)
+}
+
+pub fn grown_length(k: Kind, h: Header) -> usize
+    ensures { λ r. ⌜ r ≡ grownLength k h ⌝ }
+{
+    let vertices = stored::in_growth(k.two, h.base_vertices, h.vertices);
+    let records = stored::in_growth(k.two, h.base_records, h.records);
+    tables_length(k.format, vertices, records)
+}
+
+pub fn right_length<'a>(k: Kind, base: &'a [u8], grown: &'a [u8]) -> bool
+    ensures { λ r. ⌜ r ≡ rightLength k (now (base .entry)) (now (grown .entry)) ⌝ }
+{
+    if base.len() < stored::header_width(k.format) {
         return false;
     }
-    mesh.len() == mesh_length(slices::two(mesh, 13), slices::two(mesh, 17))
+    let h = header_from(k.format, base);
+    if grown.len() != grown_length(k, h) {
+        return false;
+    }
+    base.len() == base_length(k, h)
 }

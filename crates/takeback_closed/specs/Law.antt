@@ -14,10 +14,11 @@ use Rattle.laws.specs.Below.{countBelow, count-at-most, listBelow, either}
 use Rattle.laws.specs.Lists.{joined, joined-append, joined-length, sets-append}
 use Rattle.laws.specs.Counts.{countsBelow, counts-none, counts-suc}
 use Rattle.laws_remaining.specs.Remaining.{remainingBelow, remaining-none, remaining-here, remaining-past, remaining-length, remaining-is}
+use Rattle.stored.specs.declared.Format.{Format}
 use Rattle.stored.specs.declared.Header.{Header}
 use Rattle.stored.specs.declared.Vertex.{Vertex}
 use Rattle.stored.specs.declared.Record.{Record}
-use Rattle.stored.specs.Layout.{none, headerWidth, vertexWidth, recordWidth, meshLength, headerBytes, vertexBytes, recordBytes, Mesh, meshBytes}
+use Rattle.stored.specs.Layout.{none, headerWidth, vertexWidth, recordWidth, meshLength, headerBytes, vertexBytes, recordBytes, Mesh, laidOut, meshBytes}
 use Rattle.stored.specs.Entries.{header-wide, vertex-wide, record-wide}
 use Rattle.mesh_tables.specs.Tables.{Tables, allVertices, allRecords}
 use Rattle.takeback_remains.specs.Remains.{vertexRemains, recordRemains, renumbered, vertexAgain, recordAgain, closedUp}
@@ -80,7 +81,7 @@ module _ {A : Type 0} (P : ℕ → Bool) (n : ℕ) (place : ℕ → ℕ) (f : A 
           here i = rw (length-append front (these i), these-long i) (omega arith)
 
 -- All vertices and then all records, by the tables of their new numbers.
-module _ (m : Tables) (named : ℕ → Bool) (vertices records : List ℕ) (h : Header) (out : List ℕ) where
+module _ (f : Format) (m : Tables) (named : ℕ → Bool) (vertices records : List ℕ) (h : Header) (out : List ℕ) where
   abbrev t : Tables
   t = closedUp m named
 
@@ -96,8 +97,8 @@ module _ (m : Tables) (named : ℕ → Bool) (vertices records : List ℕ) (h : 
   -- The same by any new numbers.
   abbrev putBy : (ℕ → ℕ) → (ℕ → ℕ) → List ℕ
   putBy newVertex newRecord =
-      countsBelow (entryPut newRecord (λ k. meshLength (h .vertices) k) (λ c. recordBytes (recordAgain newVertex newRecord (m .recordAt c))))
-      (countsBelow (entryPut newVertex (λ k. meshLength k 0) (λ v. vertexBytes (vertexAgain newVertex (m .vertexAt v)))) (sets out 0 (headerBytes h)) (allVertices m))
+      countsBelow (entryPut newRecord (λ k. meshLength f (h .vertices) k) (λ c. recordBytes f (recordAgain newVertex newRecord (m .recordAt c))))
+      (countsBelow (entryPut newVertex (λ k. meshLength f k 0) (λ v. vertexBytes f (vertexAgain newVertex (m .vertexAt v)))) (sets out 0 (headerBytes f h)) (allVertices m))
       (allRecords m)
 
   -- Each entry with its new numbers.
@@ -108,21 +109,21 @@ module _ (m : Tables) (named : ℕ → Bool) (vertices records : List ℕ) (h : 
   recordNow c = recordAgain (renumbered P) (renumbered Q) (m .recordAt c)
 
   abbrev front : List ℕ
-  front = headerBytes h ++ joined vertexBytes (remainingBelow (allVertices m) P vertexNow)
+  front = headerBytes f h ++ joined (vertexBytes f) (remainingBelow (allVertices m) P vertexNow)
 
   module _ (of-vertices : newIn vertices ≡ renumbered P) (of-records : newIn records ≡ renumbered Q) (behind : h .vertices ≡ countBelow (allVertices m) P) (few-vertices : allVertices m ≤ none) (few-records : allRecords m ≤ none) where
-    front-long : length front ≡ headerWidth + vertexWidth * h .vertices
+    front-long : length front ≡ headerWidth f + vertexWidth f * h .vertices
     front-long =
-        length-append (headerBytes h) _
-        ∙ ap₂ _+_ (header-wide h) (these-long P (allVertices m) (λ k. meshLength k 0) vertexBytes vertexNow vertexWidth vertex-wide (allVertices m) ∙ ap (λ (n : ℕ). vertexWidth * n) (sym behind))
+        length-append (headerBytes f h) _
+        ∙ ap₂ _+_ (header-wide f h) (these-long P (allVertices m) (λ k. meshLength f k 0) (vertexBytes f) vertexNow (vertexWidth f) (vertex-wide f) (allVertices m) ∙ ap (λ (n : ℕ). vertexWidth f * n) (sym behind))
 
-    pub closed-put : closedPut m vertices records h out ≡ sets out 0 (meshBytes leftMesh)
-    unfolding closedPut closedUp meshBytes
+    pub closed-put : closedPut f m vertices records h out ≡ sets out 0 (meshBytes f leftMesh)
+    unfolding closedPut closedUp laidOut
     closed-put =
         (λ i. putBy (of-vertices i) (of-records i))
-        ∙ ap (λ (s : List ℕ). countsBelow (entryPut (renumbered Q) (λ k. meshLength (h .vertices) k) (λ c. recordBytes (recordNow c))) s (allRecords m))
-        (entries-put P (allVertices m) (λ k. meshLength k 0) vertexBytes vertexNow vertexWidth vertex-wide few-vertices out (headerBytes h) (λ k. omega (arith, header-wide h)) (allVertices m) (le-refl (allVertices m)))
-        ∙ entries-put Q (allRecords m) (λ k. meshLength (h .vertices) k) recordBytes recordNow recordWidth record-wide few-records out front (λ k. omega (arith, front-long)) (allRecords m) (le-refl (allRecords m))
-        ∙ ap₂ (λ (a : List Vertex) (b : List Record). sets out 0 (headerBytes h ++ joined vertexBytes a ++ joined recordBytes b))
+        ∙ ap (λ (s : List ℕ). countsBelow (entryPut (renumbered Q) (λ k. meshLength f (h .vertices) k) (λ c. recordBytes f (recordNow c))) s (allRecords m))
+        (entries-put P (allVertices m) (λ k. meshLength f k 0) (vertexBytes f) vertexNow (vertexWidth f) (vertex-wide f) few-vertices out (headerBytes f h) (λ k. omega (arith, header-wide f h)) (allVertices m) (le-refl (allVertices m)))
+        ∙ entries-put Q (allRecords m) (λ k. meshLength f (h .vertices) k) (recordBytes f) recordNow (recordWidth f) (record-wide f) few-records out front (λ k. omega (arith, front-long)) (allRecords m) (le-refl (allRecords m))
+        ∙ ap₂ (λ (a : List Vertex) (b : List Record). sets out 0 (headerBytes f h ++ joined (vertexBytes f) a ++ joined (recordBytes f) b))
         (remaining-is P vertexNow (allVertices m))
         (remaining-is Q recordNow (allRecords m))

@@ -80,14 +80,14 @@ fn put_vertex<'a>(
     vertices: &'a [u32],
     v: usize,
 )
-    ensures { λ _. ⌜ now (out .exit) ≡ vertexPut (vertexIn l (now (base .entry)) (now (grown .entry))) (now (vertices .entry)) (now (out .entry)) v ⌝ }
+    ensures { λ _. ⌜ now (out .exit) ≡ vertexPut (l .format) (vertexIn l (now (base .entry)) (now (grown .entry))) (now (vertices .entry)) (now (out .entry)) v ⌝ }
 {
     let k = takeback_remains::new_number(vertices, v);
     if k == stored::NONE {
         return;
     }
     let vertex = vertex_again(l, base, grown, vertices, v);
-    stored_written::append_vertex(out, k, vertex);
+    stored_written::append_vertex(l.format, out, k, vertex);
 }
 
 fn put_vertices<'a>(
@@ -98,7 +98,7 @@ fn put_vertices<'a>(
     vertices: &'a [u32],
     count: usize,
 )
-    ensures { λ _. ⌜ now (out .exit) ≡ countsBelow (vertexPut (vertexIn l (now (base .entry)) (now (grown .entry))) (now (vertices .entry))) (now (out .entry)) count ⌝ }
+    ensures { λ _. ⌜ now (out .exit) ≡ countsBelow (vertexPut (l .format) (vertexIn l (now (base .entry)) (now (grown .entry))) (now (vertices .entry))) (now (out .entry)) count ⌝ }
 {
     let mut v: usize = 0;
     while v < count {
@@ -118,14 +118,14 @@ fn put_record<'a>(
     records: &'a [u32],
     n: usize,
 )
-    ensures { λ _. ⌜ now (out .exit) ≡ recordPut (recordIn l (now (base .entry)) (now (grown .entry))) behind (now (vertices .entry)) (now (records .entry)) (now (out .entry)) n ⌝ }
+    ensures { λ _. ⌜ now (out .exit) ≡ recordPut (l .format) (recordIn l (now (base .entry)) (now (grown .entry))) behind (now (vertices .entry)) (now (records .entry)) (now (out .entry)) n ⌝ }
 {
     let k = takeback_remains::new_number(records, n);
     if k == stored::NONE {
         return;
     }
     let record = record_again(l, base, grown, vertices, records, n);
-    stored_written::append_record(out, behind, k, record);
+    stored_written::append_record(l.format, out, behind, k, record);
 }
 
 fn put_records<'a>(
@@ -138,7 +138,7 @@ fn put_records<'a>(
     records: &'a [u32],
     count: usize,
 )
-    ensures { λ _. ⌜ now (out .exit) ≡ countsBelow (recordPut (recordIn l (now (base .entry)) (now (grown .entry))) behind (now (vertices .entry)) (now (records .entry))) (now (out .entry)) count ⌝ }
+    ensures { λ _. ⌜ now (out .exit) ≡ countsBelow (recordPut (l .format) (recordIn l (now (base .entry)) (now (grown .entry))) behind (now (vertices .entry)) (now (records .entry))) (now (out .entry)) count ⌝ }
 {
     let mut n: usize = 0;
     while n < count {
@@ -158,9 +158,9 @@ pub fn put_closed<'a>(
     vertices: &'a [u32],
     records: &'a [u32],
 )
-    ensures { λ _. ⌜ now (out .exit) ≡ closedPut (tables h l (now (base .entry)) (now (grown .entry))) (now (vertices .entry)) (now (records .entry)) with (now (out .entry)) ⌝ }
+    ensures { λ _. ⌜ now (out .exit) ≡ closedPut (l .format) (tables h l (now (base .entry)) (now (grown .entry))) (now (vertices .entry)) (now (records .entry)) with (now (out .entry)) ⌝ }
 {
-    stored_written::put_header(out, with);
+    stored_written::put_header(l.format, out, with);
     put_vertices(out, l, base, grown, vertices, h.vertices as usize);
     put_records(
         out,

@@ -1,13 +1,12 @@
--- What taking cuts back answers, for every mesh, every request and every length of the output buffer.
+-- What taking cuts back answers, for every mesh of every kind, every request and every length of the output buffer.
 use mathlib.Core.Path.{_≡_, refl, sym, _∙_}
 use mathlib.Core.Bool.{true, false}
-use mathlib.Core.List.{List}
 use Prim.Native.Nat.{ℕ, _+_, _<_}
 use lib.ListN.{replicate}
 use lib.Dec.{eqb}
 use Rattle.laws.specs.Lists.{zeroPast}
 use Rattle.laws.specs.Order.{firstBroken}
-use Rattle.stored.specs.Layout.{lastRound, headerOf, meshBytes, rightSelectionLength, rightSelectionMark, selectionOf}
+use Rattle.stored.specs.Layout.{lastRound, Stored, headerOf, meshBytes, StoredSelection, rightSelectionLength, rightSelectionMark, selectionOf}
 use Rattle.stored.specs.Fitting.{round-rises}
 use Rattle.mesh_tables.specs.Tables.{tablesOf}
 use Rattle.check_refusals.specs.Check.{checkNumber}
@@ -17,14 +16,14 @@ use Rattle.takeback_remains.specs.Remains.{closedUp}
 use Rattle.takeback_service.specs.TakeBack.{left, requestRows, takeBackNumber, takeBackBytes}
 use Rattle.takeback_service.specs.Order.{requestNumber, request-refused}
 
-module _ (mesh request : List ℕ) (room : ℕ) where
+module _ (mesh : Stored) (request : StoredSelection) (room : ℕ) where
   -- "After a refusal the output buffer is zero throughout"
   pub refused-bytes : eqb (takeBackNumber mesh request room) 0 ≡ false → takeBackBytes mesh request room ≡ replicate room 0
   unfolding takeBackBytes
   refused-bytes e = rw e
 
   -- "after acceptance it is zero past the result."
-  pub accepted-bytes : takeBackNumber mesh request room ≡ 0 → takeBackBytes mesh request room ≡ zeroPast room (meshBytes (resultOf (left mesh request)))
+  pub accepted-bytes : takeBackNumber mesh request room ≡ 0 → takeBackBytes mesh request room ≡ zeroPast room (meshBytes (mesh .kind .format) (resultOf (left mesh request)))
   unfolding takeBackBytes
   accepted-bytes e = rw e
 
@@ -44,7 +43,7 @@ module _ (mesh request : List ℕ) (room : ℕ) where
         sym (found ∙ request-refused mesh request room accepted (rw (← found)) .0)
 
 -- "the round rises by 1"; the job and the base counts stay.
-module _ (mesh request : List ℕ) where
+module _ (mesh : Stored) (request : StoredSelection) where
   pub job-kept : resultOf (left mesh request) .header .job ≡ headerOf mesh .job
   unfolding resultOf left closedUp tablesOf
   job-kept = refl

@@ -2,7 +2,7 @@
 use mathlib.Core.Path.{_≡_, refl, sym, ap, _∙_}
 use mathlib.Core.Bool.{Bool, true, false, _&&_}
 use mathlib.Core.Logic.{_⊎_, inl, inr, ⊎-elim}
-use mathlib.Core.List.{List}
+use mathlib.Core.List.{[]}
 use Prim.Native.Nat.{ℕ, zero, suc, _+_, _≤_, _<_}
 use native.Mathlib.Omega.{arith}
 use lib.ListN.{length}
@@ -11,7 +11,7 @@ use borrow.Author.Tests.{eqb-true, eq-eqb, ltb-true}
 use Rattle.laws.specs.Below.{and-left, anyBelow, any-is, any-where}
 use Rattle.laws_remaining.specs.Remaining.{oldBelow}
 use Rattle.piece.specs.Ends.{cornerAt}
-use Rattle.stored.specs.Layout.{none, meshBytes, namedIn}
+use Rattle.stored.specs.Layout.{none, meshBytes, Stored, ofKind, storedAs, StoredSelection, namedIn}
 use Rattle.mesh_tables.specs.Tables as Check
 use Rattle.mesh_tables.specs.Tables.{tablesOf, baseVertices, allVertices, baseRecords, allRecords, isCut}
 use Rattle.check_refusals.specs.Refusals.{isChildOf}
@@ -26,7 +26,7 @@ use Rattle.demands_taken_back.specs.Words.{GoodRequestFor, TakenBackFrom}
 use Rattle.demands_taken_back.specs.ByNumbers.{NamedNumber, Holder, ParentStays, ByNumbers}
 use Rattle.demands_taken_back.specs.ByTables.{cut-is, first-is, cut-vertex}
 use Rattle.demands_taken_back.specs.TablesLeft.{NewNumber, TablesLeft}
-use Rattle.demands_taken_back.specs.FromTables.{tables-taken-back, tables-no-longer}
+use Rattle.demands_taken_back.specs.FromTables.{tables-taken-back, tables-in-one, tables-no-longer}
 
 -- What remains of tables is left of them, entry by entry.
 new-number : (stays : ℕ → Bool) (x : ℕ) → NewNumber stays x (renumbered stays x)
@@ -52,7 +52,7 @@ closed-left m named =
     corner k (suc (suc (suc zero))) l = new-number _ _
     corner k (suc (suc (suc (suc j)))) l = absurd (omega arith)
 
-module _ (s : List ℕ) (x : StoredMesh s) (request : List ℕ) (good : GoodRequestFor x request) where
+module _ (s : Stored) (x : StoredMesh s) (request : StoredSelection) (good : GoodRequestFor x request) where
   abbrev m : Check.Tables
   m = tablesOf s
 
@@ -169,8 +169,11 @@ module _ (s : List ℕ) (x : StoredMesh s) (request : List ℕ) (good : GoodRequ
   records-below r t = let l = ltb-true r (allRecords m) (and-left (ltb r (allRecords m)) _ t) in omega (arith, l, From.holds s x .records)
 
   -- The tables that are left are what is taken back.
-  pub left-taken-back : TakenBackFrom x request (meshBytes (meshFor (x .job) (x .round + 1) (closedUp m named)))
+  pub left-taken-back : TakenBackFrom x request (storedAs (s .kind) (s .right) (meshFor (x .job) (x .round + 1) (closedUp m named)))
   left-taken-back = tables-taken-back s x request good (cutVertex m) (freed (m .recordAt) named) vertexStays recordStays by-numbers vertices-below records-below (closedUp m named) (closed-left m named)
 
-  pub left-no-longer : length (meshBytes (meshFor (x .job) (x .round + 1) (closedUp m named))) ≤ length s
+  pub left-in-one : s .kind .two ≡ false → storedAs (s .kind) (s .right) (meshFor (x .job) (x .round + 1) (closedUp m named)) ≡ ofKind s (meshBytes (s .kind .format) (meshFor (x .job) (x .round + 1) (closedUp m named))) []
+  left-in-one = tables-in-one s x request good (cutVertex m) (freed (m .recordAt) named) vertexStays recordStays by-numbers vertices-below records-below (closedUp m named) (closed-left m named)
+
+  pub left-no-longer : s .kind .two ≡ false → length (meshBytes (s .kind .format) (meshFor (x .job) (x .round + 1) (closedUp m named))) ≤ length (s .base)
   left-no-longer = tables-no-longer s x request good (cutVertex m) (freed (m .recordAt) named) vertexStays recordStays by-numbers vertices-below records-below (closedUp m named) (closed-left m named)

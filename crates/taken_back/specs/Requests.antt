@@ -10,7 +10,8 @@ use lib.Dec.{eqb}
 use borrow.Author.Tests.{eqb-true, eqb-false, not-true}
 use Rattle.laws.specs.Below.{either}
 use Rattle.laws.specs.Order.{Rule, rule, Giving, Judged, judge, done, judged-then, given-exactly, accepted-exactly, given-passes, one-of-them}
-use Rattle.stored.specs.Layout.{none, selectionOf, namedIn}
+use Rattle.stored.specs.declared.Kind.{Kind}
+use Rattle.stored.specs.Layout.{none, Stored, StoredSelection, selectionOf, namedIn}
 use Rattle.mesh_tables.specs.Tables.{Tables, tablesOf}
 use Rattle.check_refusals.specs.Check.{rows, tableRows, checkNumber}
 use Rattle.check_meaning.specs.Tests.{Fails, reads, equal, fails-unless, none-passes}
@@ -29,23 +30,23 @@ use Rattle.demands_taken_back.specs.ByTables.{first-is}
 -- ---- what the rules ask
 
 -- no "named record that is uncut"
-abbrev pub NamesCut : Tables → List ℕ → Type 0
+abbrev pub NamesCut : Tables → StoredSelection → Type 0
 NamesCut m t = (i : ℕ) → i < countIn t → firstChild m (namedIn t i) ≢ none
 
 -- 11 to 15, 30 and 18, of the mesh and the request.
-abbrev pub requestRules : Tables → List ℕ → List Rule
+abbrev pub requestRules : Tables → StoredSelection → List Rule
 requestRules m t = selectionRules m t ++ (rule 30 (NamesCut m t) ∷ rule 18 (RoundRises m) ∷ [])
 
 -- 20: no "output buffer is shorter than the result".
-abbrev pub roomRules : Tables → ℕ → List Rule
-roomRules m room = rule 20 (resultLength m ≤ room) ∷ []
+abbrev pub roomRules : Kind → Tables → ℕ → List Rule
+roomRules k m room = rule 20 (resultLength (k .format) m ≤ room) ∷ []
 
 -- What taking cuts back asks, in the order in which it tries; the first twelve are check's own.
-abbrev pub takeBackRules : List ℕ → List ℕ → ℕ → List Rule
-takeBackRules mesh request room = checkRules mesh ++ (requestRules (tablesOf mesh) request ++ roomRules (left mesh request) room)
+abbrev pub takeBackRules : Stored → StoredSelection → ℕ → List Rule
+takeBackRules mesh request room = checkRules mesh ++ (requestRules (tablesOf mesh) request ++ roomRules (mesh .kind) (left mesh request) room)
 
 -- The request earns none of 11 to 15, 30 and 18 from the mesh.
-pub record RequestEarnsNone (m : Tables) (t : List ℕ) : Type 0 where
+pub record RequestEarnsNone (m : Tables) (t : StoredSelection) : Type 0 where
   -- 11: "selection under 13 bytes, or length not 13 + 2n"
   pub length : RightSelectionLength t
   -- 12: "selection's mark or version wrong"
@@ -62,17 +63,17 @@ pub record RequestEarnsNone (m : Tables) (t : List ℕ) : Type 0 where
   pub round-rises : RoundRises m
 
 -- All that it asks, named.
-pub record TakeBackAccepts (mesh request : List ℕ) (room : ℕ) : Type 0 where
+pub record TakeBackAccepts (mesh : Stored) (request : StoredSelection) (room : ℕ) : Type 0 where
   -- 1 to 10, 22 and 23: check accepts the mesh
   pub accepted : Accepted mesh
   -- 11 to 15, 30 and 18: the request is good for it
   pub good : RequestEarnsNone (tablesOf mesh) request
   -- 20: no "output buffer is shorter than the result"
-  pub long : resultLength (left mesh request) ≤ room
+  pub long : resultLength (mesh .kind .format) (left mesh request) ≤ room
 
 -- ---- the tests
 
-module _ (m : Tables) (t : List ℕ) where
+module _ (m : Tables) (t : StoredSelection) where
   rule30-holds : Fails (namesUncut (m .recordAt) (selectionOf t .count) (namedIn t)) (NamesCut m t)
   unfolding namesUncut
   rule30-holds = none-passes (countIn t) (λ i l. fails-unless (equal (firstChild m (namedIn t i)) none))
@@ -97,7 +98,7 @@ module _ (m : Tables) (t : List ℕ) where
 
 -- ---- a stored mesh
 
-module _ (s : List ℕ) (x : StoredMesh s) (request : List ℕ) where
+module _ (s : Stored) (x : StoredMesh s) (request : StoredSelection) where
   abbrev m : Tables
   m = tablesOf s
 
@@ -144,31 +145,31 @@ module _ (s : List ℕ) (x : StoredMesh s) (request : List ℕ) where
 
 -- ---- the numbers
 
-room-judged : (m : Tables) (room : ℕ) → (roomNumber (m .header) room ≡ 0) ↔ (resultLength m ≤ room)
+room-judged : (k : Kind) (m : Tables) (room : ℕ) → (roomNumber k (m .header) room ≡ 0) ↔ (resultLength (k .format) m ≤ room)
 unfolding roomNumber
-room-judged m room = reads (accepted-exactly (judge {n = 20} (rule20-holds m room) λ h20. done) refl) (λ (h20, end). h20) (λ h. (h, tt))
+room-judged k m room = reads (accepted-exactly (judge {n = 20} (rule20-holds (k .format) m room) λ h20. done) refl) (λ (h20, end). h20) (λ h. (h, tt))
 
-module _ (mesh request : List ℕ) (room : ℕ) where
+module _ (mesh : Stored) (request : StoredSelection) (room : ℕ) where
   -- A number is given exactly where every rule before it holds and its own does not.
   pub take-back-refuses-exactly : (n : ℕ) → (takeBackNumber mesh request room ≡ n) ↔ Giving (takeBackRules mesh request room) n
   unfolding takeBackNumber rows tableRows requestRows selectionRows roundRow
   take-back-refuses-exactly =
       given-exactly
-      (judged-then (check-judged mesh) λ accepted. judged-then (request-judged (tablesOf mesh) request) λ good. judge (rule20-holds (left mesh request) room) λ h20. done)
+      (judged-then (check-judged mesh) λ accepted. judged-then (request-judged (tablesOf mesh) request) λ good. judge (rule20-holds (mesh .kind .format) (left mesh request) room) λ h20. done)
       refl
 
   -- 0 exactly where check accepts the mesh, the request is good for it and the buffer is long enough.
   pub take-back-accepts : (takeBackNumber mesh request room ≡ 0) ↔ TakeBackAccepts mesh request room
   take-back-accepts =
       let right = request-exactly (tablesOf mesh) request in
-      let fits = room-judged (left mesh request) room in
+      let fits = room-judged (mesh .kind) (left mesh request) room in
       reads (take-back-none mesh request room)
       (λ (checked, (requested, long)). record { accepted = accepts-exactly mesh .0 checked; good = right .0 requested; long = fits .0 long })
       (λ a. (accepts-exactly mesh .1 (a .accepted), (right .1 (a .good), fits .1 (a .long))))
 
 -- ---- on a mesh that check accepts
 
-module _ (mesh request : List ℕ) (accepted : checkNumber mesh ≡ 0) where
+module _ (mesh : Stored) (request : StoredSelection) (accepted : checkNumber mesh ≡ 0) where
   -- Where the request is right, the buffer decides: 0 or 20.
   module _ (right : requestNumber (tablesOf mesh) request ≡ 0) (room : ℕ) where
     pub right-one-of : (takeBackNumber mesh request room ≡ 0) ⊎ (takeBackNumber mesh request room ≡ 20)
@@ -177,10 +178,10 @@ module _ (mesh request : List ℕ) (accepted : checkNumber mesh ≡ 0) where
         let is = later mesh request room accepted right in
         ⊎-elim (λ e. inl (sym is ∙ e)) (⊎-elim (λ e. inr (sym is ∙ e)) absurd) (one-of-them _)
 
-    pub right-fits : (takeBackNumber mesh request room ≡ 0) ↔ (resultLength (left mesh request) ≤ room)
+    pub right-fits : (takeBackNumber mesh request room ≡ 0) ↔ (resultLength (mesh .kind .format) (left mesh request) ≤ room)
     right-fits =
         let is = later mesh request room accepted right in
-        let fits = room-judged (left mesh request) room in
+        let fits = room-judged (mesh .kind) (left mesh request) room in
         (λ e. fits .0 (is ∙ e), λ h. sym is ∙ fits .1 h)
 
   -- 0 or 20 is given only where it is right.

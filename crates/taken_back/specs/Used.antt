@@ -1,11 +1,10 @@
 -- A request belongs to one job and one round, and is used once. Assumes nothing.
 use mathlib.Core.Path.{_≡_, sym, _∙_}
 use mathlib.Core.Logic.{_≢_, ⊎-elim}
-use mathlib.Core.List.{List}
 use Prim.Native.Nat.{ℕ}
 use native.Mathlib.Omega.{arith}
 use Rattle.laws.specs.Below.{either}
-use Rattle.stored.specs.Layout.{headerOf, selectionOf}
+use Rattle.stored.specs.Layout.{Stored, headerOf, StoredSelection, selectionOf}
 use Rattle.mesh_tables.specs.Tables.{tablesOf}
 use Rattle.check_refusals.specs.Check.{checkNumber}
 use Rattle.check_refusals.specs.Rows.{report-number}
@@ -26,7 +25,7 @@ use Rattle.taken_back.specs.Result.{check-accepts}
 
 -- ---- of another job, of another round
 
-module _ (mesh t : List ℕ) (room : ℕ) (accepted : checkNumber mesh ≡ 0) (whole : RightSelectionLength t) (marked : RightSelectionMark t) where
+module _ (mesh : Stored) (t : StoredSelection) (room : ℕ) (accepted : checkNumber mesh ≡ 0) (whole : RightSelectionLength t) (marked : RightSelectionMark t) where
   other-job-13 : selectionOf t .job ≢ headerOf mesh .job → takeBackNumber mesh t room ≡ 13
   unfolding tablesOf
   other-job-13 other =
@@ -48,7 +47,7 @@ module _ (mesh t : List ℕ) (room : ℕ) (accepted : checkNumber mesh ≡ 0) (w
         (rule13-holds (tablesOf mesh) t .1 job)
         (⊎-elim (λ e. e) (λ f. absurd (other (rule14-holds (tablesOf mesh) t .0 f))) (either (anotherRound (headerOf mesh) (selectionOf t))))
 
-module _ (s : List ℕ) (x : StoredMesh s) (request : List ℕ) (room : ℕ) (whole : RightSelectionLength request) (marked : RightSelectionMark request) where
+module _ (s : Stored) (x : StoredMesh s) (request : StoredSelection) (room : ℕ) (whole : RightSelectionLength request) (marked : RightSelectionMark request) where
   pub gets-13 : selectionOf request .job ≢ x .job → takeBackNumber s request room ≡ 13
   unfolding tablesOf
   gets-13 other = other-job-13 s request room (check-accepts s x) whole marked (λ e. other (e ∙ From.stored-job s x))
@@ -60,7 +59,7 @@ module _ (s : List ℕ) (x : StoredMesh s) (request : List ℕ) (room : ℕ) (wh
 -- ---- used once
 
 -- What is handed back is a later mesh of the same job.
-pub taken-back-later : (s : List ℕ) (x : StoredMesh s) (request mesh : List ℕ) → TakenBackFrom x request mesh → Later s mesh
+pub taken-back-later : (s : Stored) (x : StoredMesh s) (request : StoredSelection) (mesh : Stored) → TakenBackFrom x request mesh → Later s mesh
 unfolding tablesOf
 taken-back-later s x request mesh t =
     let after = again s x request mesh t in
@@ -71,8 +70,8 @@ taken-back-later s x request mesh t =
     }
 
 -- What was used on s, by either service, gets 14 from both on every later mesh.
-module _ (s t : List ℕ) (whole : RightSelectionLength t) (marked : RightSelectionMark t) (job : SameJob (tablesOf s) t) (round : SameRound (tablesOf s) t)
-    (later : List ℕ) (is : Later s later) (room : ℕ)
+module _ (s : Stored) (t : StoredSelection) (whole : RightSelectionLength t) (marked : RightSelectionMark t) (job : SameJob (tablesOf s) t) (round : SameRound (tablesOf s) t)
+    (later : Stored) (is : Later s later) (room : ℕ)
   where
     accepted : checkNumber later ≡ 0
     accepted = sym (report-number later) ∙ is .accepted
@@ -91,12 +90,12 @@ module _ (s t : List ℕ) (whole : RightSelectionLength t) (marked : RightSelect
     dead-there : refineNumber later t room ≡ 14
     dead-there = refine-14 later t room accepted whole marked this-job other-round
 
-module _ (s t : List ℕ) (room : ℕ) where
-  pub used-here-here : takeBackNumber s t room ≡ 0 → (later : List ℕ) → Later s later → (room′ : ℕ) → takeBackNumber later t room′ ≡ 14
+module _ (s : Stored) (t : StoredSelection) (room : ℕ) where
+  pub used-here-here : takeBackNumber s t room ≡ 0 → (later : Stored) → Later s later → (room′ : ℕ) → takeBackNumber later t room′ ≡ 14
   used-here-here e = let g = take-back-accepts s t room .0 e .good in dead-here s t (g .length) (g .mark) (g .job) (g .round)
 
-  pub used-here-there : takeBackNumber s t room ≡ 0 → (later : List ℕ) → Later s later → (room′ : ℕ) → refineNumber later t room′ ≡ 14
+  pub used-here-there : takeBackNumber s t room ≡ 0 → (later : Stored) → Later s later → (room′ : ℕ) → refineNumber later t room′ ≡ 14
   used-here-there e = let g = take-back-accepts s t room .0 e .good in dead-there s t (g .length) (g .mark) (g .job) (g .round)
 
-  pub used-there-here : refineNumber s t room ≡ 0 → (later : List ℕ) → Later s later → (room′ : ℕ) → takeBackNumber later t room′ ≡ 14
+  pub used-there-here : refineNumber s t room ≡ 0 → (later : Stored) → Later s later → (room′ : ℕ) → takeBackNumber later t room′ ≡ 14
   used-there-here e = let g = refine-accepts-all s t room .0 e .good in dead-here s t (g .length) (g .mark) (g .job) (g .round)

@@ -6,7 +6,7 @@ use mathlib.Core.Path.{sym, _∙_, ap, subst}
 use native.Mathlib.Omega.{arith}
 use lib.ListN.{length, replicate, length-replicate}
 use denote.Ref.{now}
-use Rattle.stored.specs.Layout.{limits, vertexWidth, recordWidth}
+use Rattle.stored.specs.Layout.{version1, limits, vertexWidth, recordWidth}
 use Rattle.stored.specs.Fitting.{HeaderFits}
 use Rattle.check_refusals.specs.Bounded.{Bounded, bounded}
 use Rattle.build_service.specs.Storing.{header-fits, vertices-held, records-held, plain-assembled, given-pieces, laterNumber, laterBytes}
@@ -25,12 +25,12 @@ finish-requires c κs =
     let h = c .before .before .before .before .before .before .before .before .before .before .before .before .before .before .plain-header in
     let first = c .before .before .before .before .before .before .before .before .before .before .put-vertices in
     let then = c .before .before .before .before .before .put-records in
-    let deep = ap length (first .ensures .1) ∙ length-replicate {A = ℕ} (recordWidth * limits .records) 0 in
+    let deep = ap length (first .ensures .1) ∙ length-replicate {A = ℕ} (recordWidth version1 * limits .records) 0 in
     record {
-      bounded = subst Bounded (sym (h .ensures)) (bounded _ right);
-      fits = subst HeaderFits (sym (h .ensures)) (header-fits (a .job) coordinates corners right (omega (arith, c .before .before .before .before .before .before .before .before .before .before .before .before .before .before .before .before .before .fits .job)));
-      vertices-there = vertices-held (a .job) coordinates corners right (h .result) (h .ensures) (replicate (vertexWidth * limits .vertices) 0) (first .last .1 .0) (then .last .0) (then .last .1 .0) (length-replicate {A = ℕ} (vertexWidth * limits .vertices) 0) deep (then .ensures .0 ∙ first .ensures .0) (then .ensures .1);
-      records-there = records-held (a .job) coordinates corners right (h .result) (h .ensures) (replicate (vertexWidth * limits .vertices) 0) (first .last .1 .0) (then .last .0) (then .last .1 .0) (length-replicate {A = ℕ} (vertexWidth * limits .vertices) 0) deep (then .ensures .0 ∙ first .ensures .0) (then .ensures .1);
+      bounded = subst (Bounded limits) (sym (h .ensures)) (bounded limits _ right);
+      fits = subst (HeaderFits version1) (sym (h .ensures)) (header-fits (a .job) coordinates corners right (omega (arith, c .before .before .before .before .before .before .before .before .before .before .before .before .before .before .before .before .before .fits .job)));
+      vertices-there = vertices-held (a .job) coordinates corners right (h .result) (h .ensures) (replicate (vertexWidth version1 * limits .vertices) 0) (first .last .1 .0) (then .last .0) (then .last .1 .0) (length-replicate {A = ℕ} (vertexWidth version1 * limits .vertices) 0) deep (then .ensures .0 ∙ first .ensures .0) (then .ensures .1);
+      records-there = records-held (a .job) coordinates corners right (h .result) (h .ensures) (replicate (vertexWidth version1 * limits .vertices) 0) (first .last .1 .0) (then .last .0) (then .last .1 .0) (length-replicate {A = ℕ} (vertexWidth version1 * limits .vertices) 0) deep (then .ensures .0 ∙ first .ensures .0) (then .ensures .1);
       clear = c .before .before .before .before .before .before .before .before .before .before .before .before .before .before .before .before .before .pre .1;
     }
 
@@ -43,8 +43,8 @@ returns c =
     let h = c .before .before .before .before .before .before .before .before .before .before .before .before .before .before .before .before .before .plain-header in
     let first = c .before .before .before .before .before .before .before .before .before .before .before .before .before .put-vertices in
     let then = c .before .before .before .before .before .before .before .before .put-records in
-    let deep = ap length (first .ensures .1) ∙ length-replicate {A = ℕ} (recordWidth * limits .records) 0 in
-    let taken = plain-assembled (a .job) coordinates corners right (h .result) (h .ensures) (replicate (vertexWidth * limits .vertices) 0) (first .last .1 .0) (then .last .0) (then .last .1 .0) (length-replicate {A = ℕ} (vertexWidth * limits .vertices) 0) deep (then .ensures .0 ∙ first .ensures .0) (then .ensures .1) in
+    let deep = ap length (first .ensures .1) ∙ length-replicate {A = ℕ} (recordWidth version1 * limits .records) 0 in
+    let taken = plain-assembled (a .job) coordinates corners right (h .result) (h .ensures) (replicate (vertexWidth version1 * limits .vertices) 0) (first .last .1 .0) (then .last .0) (then .last .1 .0) (length-replicate {A = ℕ} (vertexWidth version1 * limits .vertices) 0) deep (then .ensures .0 ∙ first .ensures .0) (then .ensures .1) in
     let room = length (now (a .out)) in
     let given = c .before .before .before .before .before .before .before .before .before .before .before .before .before .before .before .before .bad-given-pieces .ensures ∙ given-pieces (a .job) coordinates corners (h .result) (h .ensures) in
     (c .before .before .finish .ensures .0 ∙ (λ i. laterNumber (given i) (taken i) room), c .before .before .finish .ensures .1 ∙ (λ i. laterBytes (given i) (taken i) room))

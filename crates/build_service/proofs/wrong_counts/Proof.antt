@@ -23,11 +23,15 @@ returns-2 c = rw (le-ltb _ _ (c .before .before .if1 .left), lt-ltb _ _ (c .if2 
 
 returns-3 : tie.Need-returns-3
 unfolding wrongCounts plainHeader
-returns-3 c = rw (le-ltb _ _ (c .before .before .before .if1 .left), le-ltb _ _ (c .before .if2 .left), lt-ltb _ _ (c .if3 .taken))
+returns-3 c = rw (le-ltb _ _ (c .before .before .before .before .if1 .left), le-ltb _ _ (c .before .before .if2 .left), lt-ltb _ _ (c .if3 .taken))
 
 returns-4 : tie.Need-returns-4
 unfolding wrongCounts plainHeader
-returns-4 c = rw (le-ltb _ _ (c .before .before .before .if1 .left), le-ltb _ _ (c .before .if2 .left), le-ltb _ _ (c .if3 .left), le-ltb (length (now (c .before .before .before .before .before .args .coordinates)) / 3) (length (now (c .before .before .before .before .before .args .coordinates)) / 3) (le-refl (length (now (c .before .before .before .before .before .args .coordinates)) / 3)), le-ltb (length (now (c .before .before .before .before .before .args .corners)) / 4) (length (now (c .before .before .before .before .before .args .corners)) / 4) (le-refl (length (now (c .before .before .before .before .before .args .corners)) / 4))) (or-none (ltb (length (now (c .before .before .before .before .before .args .corners)) / 4) 1))
+returns-4 c = rw (le-ltb _ _ (c .before .before .before .before .before .if1 .left), le-ltb _ _ (c .before .before .before .if2 .left), le-ltb _ _ (c .before .if3 .left), lt-ltb _ _ (c .if4 .taken))
+
+returns-5 : tie.Need-returns-5
+unfolding wrongCounts plainHeader
+returns-5 c = rw (le-ltb _ _ (c .before .before .before .before .before .if1 .left), le-ltb _ _ (c .before .before .before .if2 .left), le-ltb _ _ (c .before .if3 .left), le-ltb _ _ (c .if4 .left), le-ltb (length (now (c .before .before .before .before .before .before .before .args .coordinates)) / 3) (length (now (c .before .before .before .before .before .before .before .args .coordinates)) / 3) (le-refl (length (now (c .before .before .before .before .before .before .before .args .coordinates)) / 3)), le-ltb (length (now (c .before .before .before .before .before .before .before .args .corners)) / 4) (length (now (c .before .before .before .before .before .before .before .args .corners)) / 4) (le-refl (length (now (c .before .before .before .before .before .before .before .args .corners)) / 4))) (or-none (ltb (length (now (c .before .before .before .before .before .before .before .args .corners)) / 4) 1))
 
 pub wrong-counts-spec : {M : Type 1} → statement M
-wrong-counts-spec = tie.close (tie.spec (λ c. search needs) returns (λ c. search needs) returns-2 returns-3 returns-4)
+wrong-counts-spec = tie.close (tie.spec (λ c. search needs) returns (λ c. search needs) returns-2 (λ c. search needs) returns-3 returns-4 returns-5)

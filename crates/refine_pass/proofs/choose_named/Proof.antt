@@ -8,15 +8,15 @@ use lib.ListN.{length}
 use denote.Ref.{now}
 use Rattle.laws.specs.Links.{countedAt}
 use Rattle.laws.specs.Counts.{countsBelow, counts-none, counts-next, counts-end, counts-long, key-marking}
-use Rattle.stored.specs.Layout.{namedIn}
+use Rattle.stored.specs.Layout.{selectionIn, namedIn}
 use Rattle.refine_pass.proofs.choose_named.Statement.{statement}
 use Rattle.refine_pass.proofs.choose_named.Tie as tie
 
 abbrev Inv-loop : tie.InvT-loop
-Inv-loop chosen₀ selection count i₀ chosen i = (i ≤ count) × (chosen ≡ countsBelow (λ t i. countedAt t (namedIn selection i)) chosen₀ i)
+Inv-loop format chosen₀ selection count i₀ chosen i = (i ≤ count) × (chosen ≡ countsBelow (λ t i. countedAt t (namedIn (selectionIn format selection) i)) chosen₀ i)
 
 abbrev μ-loop : tie.MeasureT-loop
-μ-loop chosen₀ selection count i₀ chosen i = count - i
+μ-loop format chosen₀ selection count i₀ chosen i = count - i
 
 loop-holds : tie.Need-loop-holds Inv-loop μ-loop
 loop-holds c = (omega arith, sym (counts-none _ _))
@@ -25,7 +25,7 @@ loop-again : tie.Need-loop-again Inv-loop μ-loop
 loop-again c =
     let a = c .before .before .before .before .before .before .before .before .before .before .before .before .before .args in
     let was = c .before .before .before .before .before .before .loop in
-    (omega arith, counts-next (λ t i. countedAt t (namedIn (now (a .selection)) i)) _ (was .i) (was .chosen) (c .before .before .count .last .0) (was .inv .1) (c .before .before .count .ensures ∙ ap (countedAt (was .chosen)) (c .before .before .before .named-in .ensures)))
+    (omega arith, counts-next (λ t i. countedAt t (namedIn (selectionIn (a .format) (now (a .selection))) i)) _ (was .i) (was .chosen) (c .before .before .count .last .0) (was .inv .1) (c .before .before .count .ensures ∙ ap (countedAt (was .chosen)) (c .before .before .before .named-in .ensures)))
 
 same-length : tie.Need-same-length Inv-loop μ-loop
 same-length c = ap length (c .before .loop .inv .1) ∙ counts-long _ (key-marking _ .long) _ _ ∙ c .before .before .before .chosen .given

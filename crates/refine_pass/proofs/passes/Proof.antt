@@ -5,7 +5,7 @@ use mathlib.Core.Path.{_∙_}
 use native.Mathlib.Omega.{arith}
 use lib.ListN.{length}
 use denote.Ref.{now}
-use Rattle.stored.specs.Layout.{namedIn}
+use Rattle.stored.specs.Layout.{selectionIn, namedIn}
 use Rattle.refine_selection.specs.Selected.{isNamed}
 use Rattle.refine_cut.specs.Slices.{slices}
 use Rattle.refine_pass.specs.Steps.{refined-is}
@@ -24,8 +24,8 @@ returns c =
     let last = c .before .before .before .before .before .before .before .before .before .before .close in
     let start = slices (a .h) (now (a .base)) (now (a .grown)) in
     let then = slices (first .result) (first .last .1 .1 .1 .0) (first .last .1 .1 .1 .1 .0) in
-    refined-is (a .most) (a .l) (isNamed (a .count) (namedIn (now (a .selection)))) start then (slices (last .result) (last .last .1 .1 .1 .0) (last .last .1 .1 .1 .1 .0))
-    (named-pass (a .most) (a .l) (length (now (a .chosen))) (now (a .selection)) (a .count) (table .last .0) (table .ensures) start then (c .before .before .before .before .before .before .before .before .before .before .before .before .before .before .before .before .before .before .before .before .before .before .before .before .before .before .before .before .before .before .before .before .before .before .before .before .before .before .before .before .pre .1 .0) (first .ensures .0)) (last .ensures)
+    refined-is (a .most) (a .l) (isNamed (a .count) (namedIn (selectionIn (a .l .format) (now (a .selection))))) start then (slices (last .result) (last .last .1 .1 .1 .0) (last .last .1 .1 .1 .1 .0))
+    (named-pass (a .most) (a .l) (length (now (a .chosen))) (selectionIn (a .l .format) (now (a .selection))) (a .count) (table .last .1 .0) (table .ensures) start then (c .before .before .before .before .before .before .before .before .before .before .before .before .before .before .before .before .before .before .before .before .before .before .before .before .before .before .before .before .before .before .before .before .before .before .before .before .before .before .before .before .pre .1 .0) (first .ensures .0)) (last .ensures)
 
 pub passes-spec : {M : Type 1} → statement M
 passes-spec = tie.close (tie.spec (λ c κs. search needs) (λ c κs. search needs) close-requires (λ c. search needs) (λ c. search needs) (λ c. search needs) (λ c. search needs) (λ c. c .before .chosen2 .given ∙ c .before .before .before .before .before .before .before .before .before .before .before .before .before .before .before .before .before .before .before .before .before .before .before .before .before .before .before .before .before .before .before .chosen .given) returns)

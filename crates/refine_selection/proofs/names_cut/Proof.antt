@@ -6,14 +6,14 @@ use mathlib.Core.Path.{_≡_, sym, _∙_}
 use mathlib.Core.Bool.{false, not}
 use native.Mathlib.Omega.{arith}
 use Rattle.laws.specs.Below.{anyBelow, any-none, any-next, any-is, any-end}
-use Rattle.stored.specs.Layout.{namedIn, recordIn}
+use Rattle.stored.specs.Layout.{selectionIn, namedIn, recordIn}
 use Rattle.mesh_tables.specs.Tables.{uncut}
 use Rattle.refine_selection.specs.Selected.{namesCut}
 use Rattle.refine_selection.proofs.names_cut.Statement.{statement}
 use Rattle.refine_selection.proofs.names_cut.Tie as tie
 
 abbrev Inv-loop : tie.InvT-loop
-Inv-loop l base grown selection count i₀ i = (i ≤ count) × (anyBelow i (λ i. not (uncut (recordIn l base grown (namedIn selection i)))) ≡ false)
+Inv-loop l base grown selection count i₀ i = (i ≤ count) × (anyBelow i (λ i. not (uncut (recordIn l base grown (namedIn (selectionIn (l .format) selection) i)))) ≡ false)
 
 pub names-cut-spec : {M : Type 1} → statement M
 unfolding namesCut

@@ -8,13 +8,13 @@ use native.Mathlib.Omega.{arith}
 use lib.Dec.{eqb}
 use Rattle.laws.specs.Below.{anyBelow, any-none, any-next, any-is, any-end}
 use Rattle.piece.specs.Shape.{lastGeneration}
-use Rattle.stored.specs.Layout.{namedIn, recordIn}
+use Rattle.stored.specs.Layout.{selectionIn, namedIn, recordIn}
 use Rattle.refine_selection.specs.Selected.{namesLast}
 use Rattle.refine_selection.proofs.names_last.Statement.{statement}
 use Rattle.refine_selection.proofs.names_last.Tie as tie
 
 abbrev Inv-loop : tie.InvT-loop
-Inv-loop l base grown selection count i₀ i = (i ≤ count) × (anyBelow i (λ i. eqb (recordIn l base grown (namedIn selection i) .piece .generation) lastGeneration) ≡ false)
+Inv-loop l base grown selection count i₀ i = (i ≤ count) × (anyBelow i (λ i. eqb (recordIn l base grown (namedIn (selectionIn (l .format) selection) i) .piece .generation) lastGeneration) ≡ false)
 
 pub names-last-spec : {M : Type 1} → statement M
 unfolding namesLast

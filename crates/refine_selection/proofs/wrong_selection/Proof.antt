@@ -7,31 +7,31 @@ use denote.Ref.{now}
 use borrow.Author.Tests.{not-true, not-false, eq-eqb, ne-eqb}
 use Rattle.laws.specs.Order.{firstBroken}
 use Rattle.stored.specs.declared.Selection.{Selection}
-use Rattle.stored.specs.Layout.{rightSelectionLength, rightSelectionMark, selectionOf, namedIn}
+use Rattle.stored.specs.Layout.{selectionIn, rightSelectionLength, rightSelectionMark, selectionOf, namedIn}
 use Rattle.refine_selection.specs.Selected.{wrongSelectionLength, wrongSelectionMark, anotherJob, anotherRound, badNumbers, selectionRows}
 use Rattle.refine_selection.proofs.wrong_selection.Statement.{statement}
 use Rattle.refine_selection.proofs.wrong_selection.Tie as tie
 
 -- What holds after each test.
-length-right : (c : tie.Else1) → rightSelectionLength (now (c .before .before .before .args .selection)) ≡ true
+length-right : (c : tie.Else1) → rightSelectionLength (selectionIn (c .before .before .before .args .format) (now (c .before .before .before .args .selection))) ≡ true
 length-right c = sym (c .before .right-selection-length .ensures) ∙ not-false (c .before .right-selection-length .result) (c .if1 .left)
 
-mark-right : (c : tie.Else2) → rightSelectionMark (now (c .before .before .before .before .before .args .selection)) ≡ true
+mark-right : (c : tie.Else2) → rightSelectionMark (selectionIn (c .before .before .before .before .before .args .format) (now (c .before .before .before .before .before .args .selection))) ≡ true
 mark-right c = sym (c .before .right-selection-mark .ensures) ∙ not-false (c .before .right-selection-mark .result) (c .if2 .left)
 
-job-same : (c : tie.Else3) → anotherJob (c .before .before .before .before .before .before .before .before .before .args .h) (selectionOf (now (c .before .before .before .before .before .before .before .before .before .args .selection))) ≡ false
+job-same : (c : tie.Else3) → anotherJob (c .before .before .before .before .before .before .before .before .before .args .h) (selectionOf (selectionIn (c .before .before .before .before .before .before .before .before .before .args .format) (now (c .before .before .before .before .before .before .before .before .before .args .selection)))) ≡ false
 unfolding anotherJob
 job-same c = rw (← c .before .before .before .selection-of .ensures, eq-eqb (c .before .before .before .selection-of .result .job) (c .before .before .before .before .before .before .before .before .before .args .h .job) (c .if3 .left))
 
-round-same : (c : tie.Else4) → anotherRound (c .before .before .before .before .before .before .before .before .before .before .before .before .args .h) (selectionOf (now (c .before .before .before .before .before .before .before .before .before .before .before .before .args .selection))) ≡ false
+round-same : (c : tie.Else4) → anotherRound (c .before .before .before .before .before .before .before .before .before .before .before .before .args .h) (selectionOf (selectionIn (c .before .before .before .before .before .before .before .before .before .before .before .before .args .format) (now (c .before .before .before .before .before .before .before .before .before .before .before .before .args .selection)))) ≡ false
 unfolding anotherRound
 round-same c = rw (← c .before .before .before .before .before .before .selection-of .ensures, eq-eqb (c .before .before .before .before .before .before .selection-of .result .round) (c .before .before .before .before .before .before .before .before .before .before .before .before .args .h .round) (c .if4 .left))
 
 numbers-judged : (c : tie.After-bad-numbers) {b : Bool} → c .bad-numbers .result ≡ b →
-    let a = c .before .before .before .before .before .before .before .before .before .before .before .before .before .before .args in badNumbers (a .h .records) (selectionOf (now (a .selection)) .count) (namedIn (now (a .selection))) ≡ b
+    let a = c .before .before .before .before .before .before .before .before .before .before .before .before .before .before .args in badNumbers (a .h .records) (selectionOf (selectionIn (a .format) (now (a .selection))) .count) (namedIn (selectionIn (a .format) (now (a .selection)))) ≡ b
 numbers-judged c e =
     let a = c .before .before .before .before .before .before .before .before .before .before .before .before .before .before .args in
-    sym (c .bad-numbers .ensures ∙ ap (λ (s : Selection). badNumbers (a .h .records) (s .count) (namedIn (now (a .selection)))) (c .before .before .before .before .before .before .before .before .selection-of .ensures)) ∙ e
+    sym (c .bad-numbers .ensures ∙ ap (λ (s : Selection). badNumbers (a .h .records) (s .count) (namedIn (selectionIn (a .format) (now (a .selection))))) (c .before .before .before .before .before .before .before .before .selection-of .ensures)) ∙ e
 
 returns : tie.Need-returns
 unfolding selectionRows firstBroken wrongSelectionLength

@@ -1,13 +1,59 @@
--- `stored_encoded::vertex_bytes` meets its contract: with what the calls ensure the definition computes to these bytes.
+-- `stored_encoded::vertex_bytes` meets its contract: the fields, laid out one after the other in numbers of two bytes or of four.
+-- Assumes nothing.
 use borrow.Author.Needs.{needs}
+use mathlib.Core.List.{[], _∷_}
 use Rattle.laws.specs.Numbers.{numberBytes}
-use Rattle.stored.specs.Layout.{vertexBytes}
+use Rattle.stored_encoded.specs.Laid.{wide-number, narrow-number, vertex-laid}
 use Rattle.stored_encoded.proofs.vertex_bytes.Statement.{statement}
 use Rattle.stored_encoded.proofs.vertex_bytes.Tie as tie
 
 returns : tie.Need-returns
-unfolding vertexBytes numberBytes
-returns c = rw (c .number-bytes .ensures, ← c .before .before .before .before .before .stored-or-none .ensures, ← c .before .before .before .before .stored-or-none2 .ensures)
+unfolding numberBytes
+returns c =
+    let a = c .before .before .before .before .before .before .before .args in
+    vertex-laid (a .format) (a .v) [] 4 _ _ (wide-number (a .format) (c .if1 .taken)) (c .before .before .before .before .before .stored-or-none .ensures) (c .before .before .before .before .stored-or-none2 .ensures)
+
+returns-2 : tie.Need-returns-2
+unfolding numberBytes
+returns-2 c =
+    let a = c .before .before .before .before .before .before .before .args in
+    vertex-laid (a .format) (a .v) (0 ∷ 0 ∷ 0 ∷ 0 ∷ []) 2 _ _ (narrow-number (a .format) (c .if1 .left)) (c .before .before .before .before .before .stored-or-none .ensures) (c .before .before .before .before .stored-or-none2 .ensures)
 
 pub vertex-bytes-spec : {M : Type 1} → statement M
-vertex-bytes-spec = tie.close (tie.spec (λ c κs. search needs) (λ c κs. search needs) (λ c. search needs) (λ c. search needs) (λ c. search needs) (λ c. search needs) (λ c. search needs) (λ c. search needs) (λ c κs. search needs) (λ c. search needs) (λ c. search needs) (λ c. search needs) (λ c. search needs) (λ c. search needs) (λ c. search needs) (λ c. search needs) (λ c. search needs) (λ c. search needs) (λ c. search needs) returns)
+vertex-bytes-spec =
+    tie.close
+    (tie.spec
+    (λ c κs. search needs)
+    (λ c κs. search needs)
+    (λ c. search needs)
+    (λ c. search needs)
+    (λ c. search needs)
+    (λ c. search needs)
+    (λ c. search needs)
+    (λ c. search needs)
+    (λ c. search needs)
+    (λ c. search needs)
+    (λ c. search needs)
+    (λ c. search needs)
+    (λ c. search needs)
+    (λ c. search needs)
+    (λ c. search needs)
+    (λ c. search needs)
+    (λ c. search needs)
+    (λ c. search needs)
+    (λ c. search needs)
+    (λ c. search needs)
+    (λ c. search needs)
+    (λ c. search needs)
+    returns
+    (λ c. search needs)
+    (λ c. search needs)
+    (λ c. search needs)
+    (λ c. search needs)
+    (λ c. search needs)
+    (λ c. search needs)
+    (λ c. search needs)
+    (λ c. search needs)
+    (λ c. search needs)
+    (λ c. search needs)
+    returns-2)

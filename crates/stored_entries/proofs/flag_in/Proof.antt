@@ -7,7 +7,7 @@ use Rattle.stored_entries.proofs.flag_in.Tie as tie
 
 returns : tie.Need-returns
 unfolding recordIn recordFrom
-returns c = rw (c .byte .ensures, c .before .record-held .ensures)
+returns c = rw (c .byte .ensures, c .before .edge-at .ensures .0, c .before .before .record-held .ensures)
 
 pub flag-in-spec : {M : Type 1} → statement M
-flag-in-spec = tie.close (tie.spec (λ c κs. search needs) (λ c κs. search needs) returns)
+flag-in-spec = tie.close (tie.spec (λ c κs. search needs) (λ c κs. search needs) (λ c. search needs) (λ c κs. search needs) returns)

@@ -7,11 +7,11 @@ use Rattle.stored_entries.proofs.record_in.Tie as tie
 
 returns : tie.Need-returns
 unfolding recordIn
-returns c = rw (c .short-record .ensures, c .before .before .record-held .ensures)
+returns c = rw (c .short-record .ensures, c .before .before .before .record-held .ensures)
 
 returns-2 : tie.Need-returns-2
 unfolding recordIn
-returns-2 c = rw (c .whole-record .ensures, c .before .before .record-held .ensures)
+returns-2 c = rw (c .whole-record .ensures, c .before .before .before .record-held .ensures)
 
 pub record-in-spec : {M : Type 1} → statement M
-record-in-spec = tie.close (tie.spec (λ c κs. search needs) (λ c κs. search needs) returns (λ c κs. search needs) returns-2)
+record-in-spec = tie.close (tie.spec (λ c κs. search needs) (λ c κs. search needs) (λ c κs. search needs) returns (λ c κs. search needs) returns-2)

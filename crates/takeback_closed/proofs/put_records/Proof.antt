@@ -13,7 +13,7 @@ use Rattle.takeback_closed.proofs.put_records.Statement.{statement}
 use Rattle.takeback_closed.proofs.put_records.Tie as tie
 
 abbrev Inv-loop : tie.InvT-loop
-Inv-loop out₀ behind l base grown vertices records count n₀ out n = (n ≤ count) × (out ≡ countsBelow (recordPut (recordIn l base grown) behind vertices records) out₀ n)
+Inv-loop out₀ behind l base grown vertices records count n₀ out n = (n ≤ count) × (out ≡ countsBelow (recordPut (l .format) (recordIn l base grown) behind vertices records) out₀ n)
 
 abbrev μ-loop : tie.MeasureT-loop
 μ-loop out₀ behind l base grown vertices records count n₀ out n = count - n

@@ -13,7 +13,7 @@ use Rattle.takeback_closed.proofs.put_vertices.Statement.{statement}
 use Rattle.takeback_closed.proofs.put_vertices.Tie as tie
 
 abbrev Inv-loop : tie.InvT-loop
-Inv-loop out₀ l base grown vertices count v₀ out v = (v ≤ count) × (out ≡ countsBelow (vertexPut (vertexIn l base grown) vertices) out₀ v)
+Inv-loop out₀ l base grown vertices count v₀ out v = (v ≤ count) × (out ≡ countsBelow (vertexPut (l .format) (vertexIn l base grown) vertices) out₀ v)
 
 abbrev μ-loop : tie.MeasureT-loop
 μ-loop out₀ l base grown vertices count v₀ out v = count - v

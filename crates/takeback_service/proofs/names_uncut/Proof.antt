@@ -6,14 +6,14 @@ use mathlib.Core.Path.{_≡_, sym, _∙_}
 use mathlib.Core.Bool.{false}
 use native.Mathlib.Omega.{arith}
 use Rattle.laws.specs.Below.{anyBelow, any-none, any-next, any-is, any-end}
-use Rattle.stored.specs.Layout.{namedIn, recordIn}
+use Rattle.stored.specs.Layout.{selectionIn, namedIn, recordIn}
 use Rattle.mesh_tables.specs.Tables.{uncut}
 use Rattle.takeback_service.specs.TakeBack.{namesUncut}
 use Rattle.takeback_service.proofs.names_uncut.Statement.{statement}
 use Rattle.takeback_service.proofs.names_uncut.Tie as tie
 
 abbrev Inv-loop : tie.InvT-loop
-Inv-loop l base grown request count i₀ i = (i ≤ count) × (anyBelow i (λ k. uncut (recordIn l base grown (namedIn request k))) ≡ false)
+Inv-loop l base grown request count i₀ i = (i ≤ count) × (anyBelow i (λ k. uncut (recordIn l base grown (namedIn (selectionIn (l .format) request) k))) ≡ false)
 
 abbrev μ-loop : tie.MeasureT-loop
 μ-loop l base grown request count i₀ i = count - i

@@ -1,0 +1,2 @@
+-- What the readers of entries rest on.
+pub mod Formats
