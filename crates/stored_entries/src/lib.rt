@@ -229,18 +229,14 @@ fn vertex_from(format: Format, entry: &[u8]) -> Vertex
     whole_vertex(format, entry)
 }
 
-// Parents alone: where bytes are missing, by the whole vertex, so that the usual way stays short.
+// Parents alone.
 fn parents_from(format: Format, entry: &[u8]) -> Ends
     ensures { λ r. ⌜ r ≡ parentsOf (vertexFrom format (now (entry .entry))) ⌝ }
 {
-    if entry.len() < stored::vertex_width(format) {
-        let vertex = short_vertex(format, entry);
-        return Ends {
-            lower: vertex.p,
-            higher: vertex.q,
-        };
+    Ends {
+        lower: number_or_none(format, entry, 6),
+        higher: number_or_none(format, entry, 6 + stored::number_width(format)),
     }
-    whole_parents(format, entry)
 }
 
 pub fn vertex_in<'a>(l: Layout, base: &'a [u8], grown: &'a [u8], i: usize) -> Vertex
@@ -323,15 +319,12 @@ fn corners_from(format: Format, entry: &[u8]) -> [u32; 4]
     whole_corners(format, entry)
 }
 
-// The corner in slot k, alone: where bytes are missing, by all four.
+// The corner in slot k, alone.
 fn corner_from(format: Format, entry: &[u8], k: u8) -> u32
     requires { ⌜ k < 4 ⌝ }
     ensures { λ r. ⌜ r ≡ getD (cornersFrom format (now (entry .entry))) k 0 ⌝ }
 {
-    if entry.len() < stored::edge_at(format) {
-        return piece::corner_at(short_corners(format, entry), k);
-    }
-    whole_number(format, entry, stored::number_width(format) * (k as usize))
+    number_or_none(format, entry, stored::number_width(format) * (k as usize))
 }
 
 fn marks_from(format: Format, entry: &[u8]) -> [u8; 4]
@@ -417,16 +410,11 @@ fn whole_record(format: Format, entry: &[u8]) -> Record
     }
 }
 
-// The first child alone: where bytes are missing, by the whole record.
+// The first child alone.
 fn first_child_from(format: Format, entry: &[u8]) -> u32
     ensures { λ r. ⌜ r ≡ recordFrom format (now (entry .entry)) .«first_child» ⌝ }
 {
-    let at = stored::edge_at(format) + 7;
-    if entry.len() < at + stored::number_width(format) {
-        let record = short_record(format, entry);
-        return record.first_child;
-    }
-    whole_number(format, entry, at)
+    number_or_none(format, entry, stored::edge_at(format) + 7)
 }
 
 pub fn record_in<'a>(l: Layout, base: &'a [u8], grown: &'a [u8], i: usize) -> Record
