@@ -122,7 +122,7 @@ fn righted_piece(coordinates: &[i16], p: Piece) -> Piece
 }
 
 // An edge: its code, and how it is ranked.
-#[derive(Drop)]
+#[derive(Clone, Copy)]
 struct Edge {
     code: u8,
     rank: Ranked,

@@ -9,7 +9,7 @@ ghost use Rattle.check_hanging.specs.Hanging.{found_of, found_along};
 use stored::{Header, Layout};
 
 // A record's number and an edge code.
-#[derive(Drop)]
+#[derive(Clone, Copy)]
 pub enum Found {
     At(usize, u8),
     Nothing,

@@ -15,7 +15,7 @@ use grid::Place;
 use stored::{Header, Layout};
 
 // The numbers of a cell along the three axes.
-#[derive(Drop)]
+#[derive(Clone, Copy)]
 struct Slabs {
     x: u32,
     y: u32,
@@ -23,14 +23,14 @@ struct Slabs {
 }
 
 // A corner: its vertex number, and where it stands.
-#[derive(Drop)]
+#[derive(Clone, Copy)]
 struct Corner {
     number: u32,
     place: Place,
 }
 
 // A piece that asks, by its corners in slots 0 to 3.
-#[derive(Drop)]
+#[derive(Clone, Copy)]
 struct Asking {
     a: Corner,
     b: Corner,

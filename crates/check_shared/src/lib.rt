@@ -9,7 +9,7 @@ ghost use Rattle.check_shared.specs.Rest.{has, same_rest};
 ghost use Rattle.check_shared.specs.Marks.{same_two, same_edge};
 
 // The corners of a face.
-#[derive(Drop)]
+#[derive(Clone, Copy)]
 pub struct Face {
     pub a: u32,
     pub b: u32,

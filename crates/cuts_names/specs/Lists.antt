@@ -228,7 +228,7 @@ module _ {A B : Type 0} {same : A → A → Bool} {same' : B → B → Bool} (eq
   map_among x [] t = t
   map_among x (y ∷ l) t =
       ⊎_elim
-      (λ (e : same x y ≡ true). rw (eq.only x y e) (among_head eq' (f y) (map f l)))
+      (λ (e : same x y ≡ true). subst (λ (v : A). among same' (f v) (map f (y ∷ l)) ≡ true) (sym (eq.only x y e)) (among_head eq' (f y) (map f l)))
       (λ (d : same x y ≡ false). among_tail eq' (f x) (f y) (map f l) (map_among x l (or_second (same x y) (among same x l) d t)))
       (either (same x y))
 

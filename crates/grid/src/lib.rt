@@ -8,7 +8,7 @@ ghost use Rattle.grid.specs.Places.{coordinate, point_of, coordinate_on_grid, on
 pub const SHIFT: u32 = 32768;
 
 // A vertex's place: each coordinate and `SHIFT` more.
-#[derive(Drop)]
+#[derive(Clone, Copy)]
 pub struct Place {
     pub x: u16,
     pub y: u16,

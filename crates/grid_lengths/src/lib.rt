@@ -9,7 +9,7 @@ ghost use Rattle.grid_lengths.specs.LengthLaws.{SquaredDifference};
 use grid::Place;
 
 // An edge as it is ranked: its squared length, and its ends' vertex numbers.
-#[derive(Drop)]
+#[derive(Clone, Copy)]
 pub struct Ranked {
     pub length: u64,
     pub lower: u32,

@@ -15,7 +15,7 @@ use stored::{Header, Layout};
 
 // What list returns: a refusal's number or 0, and how long the text is that the buffer holds.
 #[repr(C)]
-#[derive(Drop)]
+#[derive(Clone, Copy)]
 pub struct Listed {
     pub number: u64,
     pub length: u64,

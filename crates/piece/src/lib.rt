@@ -8,7 +8,7 @@ ghost use Rattle.piece.specs.Ends.{lower_end, higher_end, between, ends_at, ends
 // "Generations go up to 15."
 pub const LAST_GENERATION: u8 = 15;
 
-#[derive(Drop)]
+#[derive(Clone, Copy)]
 pub struct Piece {
     // Vertex numbers in slots 0 to 3.
     pub corners: [u32; 4],
@@ -23,7 +23,7 @@ pub struct Piece {
 }
 
 // The two vertex numbers of an edge.
-#[derive(Drop)]
+#[derive(Clone, Copy)]
 pub struct Ends {
     pub lower: u32,
     pub higher: u32,

@@ -14,7 +14,7 @@ ghost use Rattle.piece_cut.specs.Cut.{child_corners, inherited_mark, refinement_
 use piece::Piece;
 
 // The two children, "first" and "second" as document 01 orders them.
-#[derive(Drop)]
+#[derive(Clone, Copy)]
 pub struct Children {
     pub first: Piece,
     pub second: Piece,

@@ -70,7 +70,7 @@ pub const NONE: u32 = 4294967295;
 pub const STORED_NONE: u32 = 65535;
 
 // How many vertices, records and base records there may be at most.
-#[derive(Drop)]
+#[derive(Clone, Copy)]
 pub struct Limits {
     pub vertices: u32,
     pub records: u32,
@@ -78,14 +78,14 @@ pub struct Limits {
 }
 
 // What an entry's bytes are: whether a vertex or record number has four bytes and not two, and whether a record has a material.
-#[derive(Drop)]
+#[derive(Clone, Copy)]
 pub struct Format {
     pub wide: bool,
     pub material: bool,
 }
 
 // A kind of mesh: what its bytes are, how much there may be, and whether it stands in two buffers and not in one.
-#[derive(Drop)]
+#[derive(Clone, Copy)]
 pub struct Kind {
     pub format: Format,
     pub limits: Limits,
@@ -94,7 +94,7 @@ pub struct Kind {
 
 // Where a table's entries of so many bytes each stand: the first `count` from `base` on in the base slice, the others from `grown` on in the
 // growth slice; there are `end` in all.
-#[derive(Drop)]
+#[derive(Clone, Copy)]
 pub struct Table {
     pub width: u32,
     pub count: u32,
@@ -103,14 +103,14 @@ pub struct Table {
     pub grown: usize,
 }
 
-#[derive(Drop)]
+#[derive(Clone, Copy)]
 pub struct Layout {
     pub format: Format,
     pub vertices: Table,
     pub records: Table,
 }
 
-#[derive(Drop)]
+#[derive(Clone, Copy)]
 pub struct Header {
     pub job: u32,
     pub round: u32,
@@ -120,21 +120,21 @@ pub struct Header {
     pub records: u32,
 }
 
-#[derive(Drop)]
+#[derive(Clone, Copy)]
 pub struct Vertex {
     pub place: Place,
     pub p: u32,
     pub q: u32,
 }
 
-#[derive(Drop)]
+#[derive(Clone, Copy)]
 pub struct Record {
     pub piece: Piece,
     pub first_child: u32,
 }
 
 // A selection's heading.
-#[derive(Drop)]
+#[derive(Clone, Copy)]
 pub struct Selection {
     pub job: u32,
     pub round: u32,

@@ -1,0 +1,14 @@
+-- `piece::lower_end`: each way out is one case of the definition, at what the calls return.
+-- Assumes nothing.
+use Rattle.std.proofs.Common.{rules}
+use borrow.Author.Tests.{lt-ltb, le-ltb}
+use Rattle.piece.specs.Ends.{lower_end}
+use Rattle.piece.proofs.lower_end.Goals as goal
+
+pub returns-then-corner_at : goal.returns-then-corner_at
+unfolding lower_end
+returns-then-corner_at c = rw (← c.low_slot-low.ensures, ← c.high_slot-high.ensures, ← c.corner_at.ensures, ← c.corner_at-2.ensures, lt-ltb _ _ c.if-corner_at.true)
+
+pub returns : goal.returns
+unfolding lower_end
+returns c = rw (← c.low_slot-low.ensures, ← c.high_slot-high.ensures, ← c.corner_at.ensures, ← c.corner_at-2.ensures, le-ltb _ _ c.if-corner_at.false)
