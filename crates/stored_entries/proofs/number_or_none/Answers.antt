@@ -1,0 +1,15 @@
+-- `stored_entries::number_or_none` meets its contract: the number of four bytes as it is, or of two.
+-- Assumes nothing.
+use Rattle.std.proofs.Common.{rules}
+use mathlib.Core.Path.{ap, ◌∙◌}
+use Rattle.stored.specs.Layout.{version1, or_none}
+use Rattle.stored_entries.specs.Formats.{wide_number, narrow_number}
+use Rattle.stored_entries.proofs.number_or_none.Goals as goal
+
+pub returns-then-format : goal.returns-then-format
+returns-then-format c = let a = c.args in c.four.ensures ∙ wide_number a.format c.if-format.true a.s.now a.at
+
+pub returns : goal.returns
+returns c =
+    let a = c.args in
+    c.or_none.ensures ∙ ap (or_none version1) c.two.ensures.value ∙ narrow_number a.format c.if-format.false a.s.now a.at

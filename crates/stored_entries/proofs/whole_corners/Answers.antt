@@ -1,0 +1,19 @@
+-- `stored_entries::whole_corners` meets its contract: four numbers of four bytes, or of two.
+-- Assumes nothing.
+use Rattle.std.proofs.Common.{rules}
+use mathlib.Core.Path.{◌∙◌}
+use native.Mathlib.Omega.{arith}
+use Rattle.stored_entries.specs.Formats.{wide_width, narrow_width, wide_corners, narrow_corners}
+use Rattle.stored_entries.proofs.whole_corners.Goals as goal
+
+pub wide_corners-requires : goal.wide_corners-requires
+wide_corners-requires c = omega (arith, c.requires, wide_width c.args.format c.if-format.true)
+
+pub returns-then-format : goal.returns-then-format
+returns-then-format c = let a = c.args in c.wide_corners.ensures ∙ wide_corners a.format c.if-format.true a.entry.now
+
+pub narrow_corners-requires : goal.narrow_corners-requires
+narrow_corners-requires c = omega (arith, c.requires, narrow_width c.args.format c.if-format.false)
+
+pub returns : goal.returns
+returns c = let a = c.args in c.narrow_corners.ensures ∙ narrow_corners a.format c.if-format.false a.entry.now

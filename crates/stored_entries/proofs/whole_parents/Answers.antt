@@ -1,0 +1,41 @@
+-- `stored_entries::whole_parents` meets its contract: two numbers of four bytes, or of two.
+-- Assumes nothing.
+use Rattle.std.proofs.Common.{rules}
+use native.Mathlib.Omega.{arith}
+use Rattle.stored.specs.Layout.{vertex_from}
+use Rattle.stored_entries.specs.Formats.{wide_width, narrow_width, wide_number, narrow_number}
+use Rattle.stored_entries.proofs.whole_parents.Goals as goal
+
+pub four_of-requires : goal.four_of-requires
+four_of-requires c = omega (arith, c.requires, wide_width c.args.format c.if-format.true)
+
+pub four_of-requires-then-format : goal.four_of-requires-then-format
+four_of-requires-then-format c = omega (arith, c.requires, wide_width c.args.format c.if-format.true)
+
+pub returns-then-format : goal.returns-then-format
+unfolding vertex_from
+returns-then-format c =
+    let a = c.args in
+    let wide = c.if-format.true in
+    rw (c.four_of.ensures, c.four_of-then-format.ensures, wide_number a.format wide a.entry.now 6, wide_number a.format wide a.entry.now 10, wide)
+
+pub two_of-requires : goal.two_of-requires
+two_of-requires c = omega (arith, c.requires, narrow_width c.args.format c.if-format.false)
+
+pub two_of-requires-2 : goal.two_of-requires-2
+two_of-requires-2 c = omega (arith, c.requires, narrow_width c.args.format c.if-format.false)
+
+pub returns : goal.returns
+unfolding vertex_from
+returns c =
+    let a = c.args in
+    let narrow = c.if-format.false in
+    rw (
+      c.or_none.ensures,
+      c.two_of.ensures.value,
+      c.or_none-2.ensures,
+      c.two_of-2.ensures.value,
+      narrow_number a.format narrow a.entry.now 6,
+      narrow_number a.format narrow a.entry.now 8,
+      narrow,
+    )
