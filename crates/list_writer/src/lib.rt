@@ -22,15 +22,11 @@ fn new<'a>(buffer: &'a mut [u8], at: usize) -> Writer<'a>
     }
 }
 
-fn put_bytes<'a, 'b>(w: Writer<'a>, bytes: &'b [u8]) -> Writer<'a>
-    ensures { result ≡ written w.entry bytes.now }
+fn put_bytes<'a, 'b>(w: &mut Writer<'a>, bytes: &'b [u8])
+    ensures { w.new ≡ written w.old bytes.now }
 {
     let at = w.at;
-    let next = list_text::bytes_at(&mut *w.buffer, at, bytes);
-    Writer {
-        buffer: w.buffer,
-        at: next,
-    }
+    w.at = list_text::bytes_at(&mut *w.buffer, at, bytes);
 }
 
 // The writer is not needed after a number: the place of the next byte is handed back.
@@ -45,7 +41,8 @@ fn put_number<'a>(w: Writer<'a>, n: u64) -> usize
 pub fn figure(buffer: &mut [u8], at: usize, name: &[u8], n: u64) -> usize
     ensures { line buffer.new result ≡ put (name.now ++ decimal n) (line buffer.old at) }
 {
-    let w = put_bytes(new(buffer, at), name);
+    let mut w = new(buffer, at);
+    put_bytes(&mut w, name);
     put_number(w, n)
 }
 

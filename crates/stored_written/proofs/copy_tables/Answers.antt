@@ -28,7 +28,4 @@ returns c =
     let a = c.args in
     let header = c.header_width-from.ensures.value in
     let vertex = c.vertex_width.ensures.value in
-    let record_wide_lem = c.record_width.ensures.value in (
-      c.put.ensures ∙ ap (sets a.base.now 0) (c.part-vertices.ensures ∙ (λ i. take (vertex i * a.h.vertices) (drop (header i) a.mesh.now))),
-      c.put-2.ensures ∙ ap (sets a.grown.now 0) (c.part-records.ensures ∙ (λ i. take (record_wide_lem i * a.h.records) (drop (header i + vertex i * a.h.vertices) a.mesh.now))),
-    )
+    let record_wide_lem = c.record_width.ensures.value in record { base_after = c.put.ensures ∙ ap (sets a.base.now 0) (c.part-vertices.ensures ∙ (λ i. take (vertex i * a.h.vertices) (drop (header i) a.mesh.now))); grown_after = c.put-2.ensures ∙ ap (sets a.grown.now 0) (c.part-records.ensures ∙ (λ i. take (record_wide_lem i * a.h.records) (drop (header i + vertex i * a.h.vertices) a.mesh.now))) }

@@ -17,4 +17,4 @@ returns c =
     let put = c.put_held in
     let bytes = c.record_bytes-bytes in
     let stored = (λ i. take (c.record_width-width.ensures.value i) bytes.result) ∙ bytes.ensures in
-    record { base_after = put.ensures.0 ∙ ap (base_into a.l.records a.base.now a.i) stored; grown_after = put.ensures.1 ∙ ap (grown_into a.l.records a.grown.now a.i) stored }
+    record { base_after = put.ensures.base_after ∙ ap (base_into a.l.records a.base.now a.i) stored; grown_after = put.ensures.grown_after ∙ ap (grown_into a.l.records a.grown.now a.i) stored }
