@@ -22,19 +22,7 @@ loop-v-preserved c =
     let start = links_of a.heads.now a.nexts.now in
     let turn = c.link_vertex in
     let keys : length at.heads ≡ length a.heads.now = ap (λ (links : Links). length links.heads) at.invariant.1 ∙ pairs_heads_long m start at.v in
-    (omega arith, links_are (pushed (links_of at.heads at.nexts) (key_of (length at.heads) m at.v) at.v) turn.new.nexts.1.1.1.0 turn.new.nexts.1.1.1.1.0 turn.ensures.heads_after turn.ensures.nexts_after ∙ ap₂ (λ (links : Links) (k : ℕ). pushed links (key_of k m at.v) at.v) at.invariant.1 keys ∙ sym (pairs_suc m start at.v) ∙ ap (pair_links m start) (sym (add-one at.v)))
-
-pub shape_of-heads : goal.shape_of-heads
-shape_of-heads c =
-    let a = c.args in
-    let at = c.loop-v in
-    ap (λ (links : Links). length links.heads) at.invariant.1 ∙ pairs_heads_long (tables a.h a.l a.base.now a.grown.now) (links_of a.heads.now a.nexts.now) at.v
-
-pub shape_of-nexts : goal.shape_of-nexts
-shape_of-nexts c =
-    let a = c.args in
-    let at = c.loop-v in
-    ap (λ (links : Links). length links.nexts) at.invariant.1 ∙ pairs_nexts_long (tables a.h a.l a.base.now a.grown.now) (links_of a.heads.now a.nexts.now) at.v
+    (omega arith, links_are (pushed (links_of at.heads at.nexts) (key_of (length at.heads) m at.v) at.v) turn.new.heads turn.new.nexts turn.ensures.heads_after turn.ensures.nexts_after ∙ ap₂ (λ (links : Links) (k : ℕ). pushed links (key_of k m at.v) at.v) at.invariant.1 keys ∙ sym (pairs_suc m start at.v) ∙ ap (pair_links m start) (sym (add-one at.v)))
 
 pub returns : goal.returns
 returns c =

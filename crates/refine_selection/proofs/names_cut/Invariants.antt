@@ -11,4 +11,7 @@ use Rattle.refine_selection.specs.Selected.{names_cut}
 use Rattle.refine_selection.proofs.names_cut.Given as goal
 
 abbrev pub invariant-loop-i : goal.invariant-loop-i
-invariant-loop-i l = (l.i ≤ l.count) × (any_below l.i (λ l.i. not (uncut (record_in l.l l.base l.grown (named_in (selection_in l.l.format l.selection) l.i)))) ≡ false)
+invariant-loop-i l = (l.i ≤ l.count) × (any_below l.i (λ j. not (uncut (record_in l.l l.base l.grown (named_in (selection_in l.l.format l.selection) j)))) ≡ false)
+
+abbrev pub decreases-loop-i : goal.decreases-loop-i
+decreases-loop-i l = l.count - l.i

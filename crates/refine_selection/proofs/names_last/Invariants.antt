@@ -12,4 +12,7 @@ use Rattle.refine_selection.specs.Selected.{names_last}
 use Rattle.refine_selection.proofs.names_last.Given as goal
 
 abbrev pub invariant-loop-i : goal.invariant-loop-i
-invariant-loop-i l = (l.i ≤ l.count) × (any_below l.i (λ l.i. eqb (record_in l.l l.base l.grown (named_in (selection_in l.l.format l.selection) l.i)).piece.generation last_generation) ≡ false)
+invariant-loop-i l = (l.i ≤ l.count) × (any_below l.i (λ j. eqb (record_in l.l l.base l.grown (named_in (selection_in l.l.format l.selection) j)).piece.generation last_generation) ≡ false)
+
+abbrev pub decreases-loop-i : goal.decreases-loop-i
+decreases-loop-i l = l.count - l.i

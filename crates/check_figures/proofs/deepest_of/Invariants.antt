@@ -1,0 +1,13 @@
+-- `check_figures::deepest_of` has the greatest of the leaves before n.
+-- Assumes nothing.
+use Rattle.std.proofs.Common.{◌≡◌, ℕ, ◌-◌, ◌≤◌, max, sym, ap, ◌∙◌, le_antisymm, arith, rules}
+use Rattle.laws.specs.Below.{greatest_below, greatest_none, greatest_next}
+use Rattle.stored.specs.Layout.{record_in}
+use Rattle.check_refusals.specs.Check.{leaf_generation, deepest}
+use Rattle.check_figures.proofs.deepest_of.Given as goal
+
+abbrev pub invariant-loop-n : goal.invariant-loop-n
+invariant-loop-n l = (l.n ≤ l.count) × (l.found ≡ greatest_below l.n (λ l.n. leaf_generation (record_in l.l l.base l.grown l.n)))
+
+abbrev pub decreases-loop-n : goal.decreases-loop-n
+decreases-loop-n l = l.count - l.n

@@ -1,0 +1,37 @@
+-- `check_inside::any_record` has found none before n.
+-- Assumes nothing.
+use Rattle.std.proofs.Common.{rules}
+use Prim.Native.Nat.{ℕ, ◌≤◌, ◌<◌, ◌-◌}
+use mathlib.Core.Path.{◌≡◌, sym, ◌∙◌}
+use mathlib.Core.Bool.{Bool, false}
+use native.Mathlib.Omega.{arith}
+use lib.ListN.{length}
+use Rattle.laws.specs.Below.{any_below, any_none, any_next, any_is, any_end}
+use Rattle.laws.specs.Links.{Chain}
+use Rattle.stored.specs.declared.Vertex.{Vertex}
+use Rattle.stored.specs.declared.Record.{Record}
+use Rattle.stored.specs.Layout.{vertex_in, record_in}
+use Rattle.check_refusals.specs.Refusals.{hangs_on}
+use Rattle.check_inside.specs.Cells.{place_key}
+use Rattle.check_inside.proofs.any_record.Goals as goal
+
+pub loop-n-init : goal.loop-n-init
+loop-n-init c = let a = c.args in (omega arith, λ some chain. any_none (hang (vertex_in a.l a.base.now a.grown.now) (record_in a.l a.base.now a.grown.now) a.vertices))
+
+pub returns-then-record_hangs : goal.returns-then-record_hangs
+returns-then-record_hangs c =
+    let a = c.args in
+    sym (any_is (hang (vertex_in a.l a.base.now a.grown.now) (record_in a.l a.base.now a.grown.now) a.vertices) a.records c.loop-n.n c.loop-n-test.true (sym (c.record_hangs.ensures some chain) ∙ c.if-record_hangs.true))
+
+pub loop-n-preserved : goal.loop-n-preserved
+loop-n-preserved c =
+    let a = c.args in (
+      omega arith,
+      λ some chain.
+          any_next (hang (vertex_in a.l a.base.now a.grown.now) (record_in a.l a.base.now a.grown.now) a.vertices) c.loop-n.n (c.loop-n.invariant.1 some chain) (sym (c.record_hangs.ensures some chain) ∙ c.if-record_hangs.false),
+    )
+
+pub returns : goal.returns
+returns c =
+    let a = c.args in
+    sym (any_end (hang (vertex_in a.l a.base.now a.grown.now) (record_in a.l a.base.now a.grown.now) a.vertices) a.records c.loop-n.n c.loop-n-test.false c.loop-n.invariant.0 (c.loop-n.invariant.1 some chain))

@@ -1,0 +1,18 @@
+-- `check_inside::link_all` has put in the vertices before v.
+-- Assumes nothing.
+use Prim.Native.Nat.{ℕ, ◌≤◌, ◌-◌}
+use mathlib.Core.Path.{◌≡◌, sym, ◌∙◌, ap, ap₂}
+use native.Mathlib.Numerals.{add-one}
+use native.Mathlib.Omega.{arith}
+use lib.ListN.{length}
+use Rattle.laws.specs.Links.{Links, links_of, links_are, pushed, linked_below, linked_none, linked_suc, linked_heads_long, linked_nexts_long}
+use Rattle.stored.specs.Layout.{vertex_in}
+use Rattle.check_inside.specs.Cells.{place_key}
+use Rattle.check_inside.proofs.link_all.Given as goal
+
+abbrev pub invariant-loop-v : goal.invariant-loop-v
+invariant-loop-v l =     (l.v ≤ l.count)
+    × (links_of l.heads l.nexts ≡ linked_below (λ l.v. place_key (length l.initial.heads) l.width (vertex_in l.l l.base l.grown l.v).place) (links_of l.initial.heads l.initial.nexts) l.v)
+
+abbrev pub decreases-loop-v : goal.decreases-loop-v
+decreases-loop-v l = l.count - l.v

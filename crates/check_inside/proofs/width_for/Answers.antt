@@ -1,0 +1,19 @@
+-- `check_inside::width_for`: n rises by one at least, and the mean of numbers below 65,536 is below it.
+-- Assumes nothing.
+use Rattle.std.proofs.Common.{rules}
+use Prim.Native.Nat.{◌+◌, ◌*◌, ◌-◌, ◌≤◌}
+use native.Mathlib.Nat.{div-le_of_le-mul}
+use native.Mathlib.Omega.{arith}
+use Rattle.check_inside.proofs.width_for.Goals as goal
+
+pub loop-n-init : goal.loop-n-init
+loop-n-init c = (omega arith, omega arith, omega arith)
+
+pub loop-n-preserved : goal.loop-n-preserved
+loop-n-preserved c = (omega arith, omega arith, omega arith)
+
+pub overflow_cast-result : goal.overflow_cast-result
+overflow_cast-result c =
+    let loop = c.loop-n in
+    let many : loop.sum ≤ loop.seen * 65535 = omega (arith, loop.invariant.1) in
+    record { fits = omega (arith, div-le_of_le-mul loop.seen many) }

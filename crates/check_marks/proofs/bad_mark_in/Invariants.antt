@@ -1,0 +1,22 @@
+-- `check_marks::bad_mark_in` has found every mark before i to fit.
+-- Assumes nothing.
+use Prim.Native.Nat.{ℕ, ◌≤◌, ◌-◌}
+use mathlib.Core.Path.{◌≡◌, sym}
+use mathlib.Core.Bool.{Bool, false, not}
+use mathlib.Core.List.{List}
+use native.Mathlib.Omega.{arith}
+use lib.ListN.{get_or}
+use Rattle.laws.specs.Below.{any_below, any_none, any_next, any_is, any_end}
+use Rattle.piece.specs.Shape.{mark_fits}
+use mathlib.Core.Path.{ap}
+use Rattle.check_marks.proofs.bad_mark_in.Given as goal
+
+-- The mark of face i does not fit.
+abbrev pub unfit : ℕ → List ℕ → ℕ → Bool
+unfit edge marks i = not (mark_fits edge (get_or marks i 0) i)
+
+abbrev pub invariant-loop-i : goal.invariant-loop-i
+invariant-loop-i l = (l.i ≤ 4) × (any_below l.i (unfit l.edge l.marks) ≡ false)
+
+abbrev pub decreases-loop-i : goal.decreases-loop-i
+decreases-loop-i l = 4 - l.i

@@ -1,0 +1,11 @@
+-- `check_pieces::or_before`: 0 or not.
+-- Assumes nothing.
+use Rattle.std.proofs.Common.{rules}
+use borrow.Author.Tests.{eq-eqb, ne_eqb}
+use Rattle.check_pieces.proofs.or_before.Goals as goal
+
+pub returns-then-found-eq0 : goal.returns-then-found-eq0
+returns-then-found-eq0 c = rw (eq-eqb _ _ c.if-found-eq0.true)
+
+pub returns : goal.returns
+returns c = rw (ne_eqb _ _ c.if-found-eq0.false)

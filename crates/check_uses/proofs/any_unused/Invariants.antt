@@ -1,0 +1,17 @@
+-- `check_uses::any_unused` has found every vertex before v counted.
+-- Assumes nothing.
+use Prim.Native.Nat.{◌≤◌, ◌-◌}
+use mathlib.Core.Path.{◌≡◌, sym, ◌∙◌}
+use mathlib.Core.Bool.{false}
+use native.Mathlib.Omega.{arith}
+use lib.Dec.{eqb}
+use lib.ListN.{get_or}
+use borrow.Author.Tests.{eq-eqb, ne_eqb}
+use Rattle.laws.specs.Below.{any_below, any_none, any_next, any_is, any_end}
+use Rattle.check_uses.proofs.any_unused.Given as goal
+
+abbrev pub invariant-loop-v : goal.invariant-loop-v
+invariant-loop-v l = (l.v ≤ l.count) × (any_below l.v (λ x. eqb (get_or l.uses x 0) 0) ≡ false)
+
+abbrev pub decreases-loop-v : goal.decreases-loop-v
+decreases-loop-v l = l.count - l.v

@@ -1,0 +1,9 @@
+-- `refine_cut::midpoint`: the two ends' places, and halfway between them.
+-- Assumes nothing.
+use Rattle.std.proofs.Common.{rules}
+use Rattle.refine_cut.specs.Cut.{midpoint_of}
+use Rattle.refine_cut.proofs.midpoint.Goals as goal
+
+pub returns : goal.returns
+unfolding midpoint_of
+returns c = rw (c.halfway-place.ensures, c.vertex_in-one.ensures, c.vertex_in-other.ensures)

@@ -1,0 +1,28 @@
+-- `refine_selection::names_cut` has passed no cut record before i.
+-- Assumes nothing.
+use Rattle.std.proofs.Common.{rules}
+use Prim.Native.Nat.{◌≤◌, ◌-◌}
+use mathlib.Core.Path.{◌≡◌, sym, ◌∙◌}
+use mathlib.Core.Bool.{false, not}
+use native.Mathlib.Omega.{arith}
+use Rattle.laws.specs.Below.{any_below, any_none, any_next, any_is, any_end}
+use Rattle.stored.specs.Layout.{selection_in, named_in, record_in}
+use Rattle.mesh_tables.specs.Tables.{uncut}
+use Rattle.refine_selection.specs.Selected.{names_cut}
+use Rattle.refine_selection.proofs.names_cut.Goals as goal
+
+pub loop-i-init : goal.loop-i-init
+unfolding names_cut
+loop-i-init c = (omega arith, any_none _)
+
+pub returns-then-is_cut : goal.returns-then-is_cut
+unfolding names_cut
+returns-then-is_cut c = sym (any_is _ _ _ c.loop-i-test.true (sym c.is_cut.ensures ∙ c.if-is_cut.true))
+
+pub loop-i-preserved : goal.loop-i-preserved
+unfolding names_cut
+loop-i-preserved c = (omega arith, any_next _ _ c.loop-i.invariant.1 (sym c.is_cut.ensures ∙ c.if-is_cut.false))
+
+pub returns : goal.returns
+unfolding names_cut
+returns c = sym (any_end _ _ _ c.loop-i-test.false c.loop-i.invariant.0 c.loop-i.invariant.1)
