@@ -7,7 +7,7 @@ use Rattle.check_refusals.specs.Check.{leaf_generation, deepest}
 use Rattle.check_figures.proofs.deepest_of.Given as goal
 
 abbrev pub invariant-loop-n : goal.invariant-loop-n
-invariant-loop-n l = (l.n ≤ l.count) × (l.found ≡ greatest_below l.n (λ l.n. leaf_generation (record_in l.l l.base l.grown l.n)))
+invariant-loop-n l = (l.n ≤ l.count) × (l.found ≡ greatest_below l.n (λ m. leaf_generation (record_in l.l l.base l.grown m)))
 
 abbrev pub decreases-loop-n : goal.decreases-loop-n
 decreases-loop-n l = l.count - l.n

@@ -8,7 +8,7 @@ use Rattle.check_refusals.specs.Check.{leaves}
 use Rattle.check_figures.proofs.leaves_of.Given as goal
 
 abbrev pub invariant-loop-n : goal.invariant-loop-n
-invariant-loop-n l = (l.n ≤ l.count) × (l.total ≡ count_below l.n (λ l.n. uncut (record_in l.l l.base l.grown l.n)))
+invariant-loop-n l = (l.n ≤ l.count) × (l.total ≡ count_below l.n (λ m. uncut (record_in l.l l.base l.grown m)))
 
 abbrev pub decreases-loop-n : goal.decreases-loop-n
 decreases-loop-n l = l.count - l.n

@@ -10,20 +10,22 @@ use Rattle.mesh_tables.specs.Tables.{sixfold_at}
 use Rattle.check_figures.specs.Bounds.{most, sixfold_at_most}
 use Rattle.check_figures.proofs.sixfold_at.Goals as goal
 
--- What is found is the determinant, and small.
-held : (c : goal.After-signed_between) →
-    let a = c.args in
-    Holds most (signed_of (λ k. point_of (vertex_in a.l a.base.now a.grown.now (get_or (record_in a.l a.base.now a.grown.now a.n).piece.corners k 0)).place)) c.signed_between.result
+pub absolute-requires : goal.absolute-requires
 unfolding sixfold_at sixfold_of
-held c =
-    let a = c.args in
+absolute-requires c =
+    let held : let a = c.args in
+    Holds most (signed_of (λ k. point_of (vertex_in a.l a.base.now a.grown.now (get_or (record_in a.l a.base.now a.grown.now a.n).piece.corners k 0)).place)) c.signed_between.result = let a = c.args in
     returned
     (c.signed_between.ensures ∙ ap (λ (corners : List ℕ). signed_of (λ k. point_of (vertex_in a.l a.base.now a.grown.now (get_or corners k 0)).place)) c.corners_in-corners.ensures)
-    (itself most _ (sixfold_at_most a.l a.base.now a.grown.now (record_in a.l a.base.now a.grown.now a.n).piece))
-
-pub absolute-requires : goal.absolute-requires
-absolute-requires c = bounded (stored (held c) tt)
+    (itself most _ (sixfold_at_most a.l a.base.now a.grown.now (record_in a.l a.base.now a.grown.now a.n).piece)) in
+    bounded (stored (held) tt)
 
 pub returns : goal.returns
 unfolding sixfold_at sixfold_of
-returns c = c.absolute.ensures ∙ ap nat_abs (stored (held c) tt).is
+returns c =
+    let held : let a = c.args in
+    Holds most (signed_of (λ k. point_of (vertex_in a.l a.base.now a.grown.now (get_or (record_in a.l a.base.now a.grown.now a.n).piece.corners k 0)).place)) c.signed_between.result = let a = c.args in
+    returned
+    (c.signed_between.ensures ∙ ap (λ (corners : List ℕ). signed_of (λ k. point_of (vertex_in a.l a.base.now a.grown.now (get_or corners k 0)).place)) c.corners_in-corners.ensures)
+    (itself most _ (sixfold_at_most a.l a.base.now a.grown.now (record_in a.l a.base.now a.grown.now a.n).piece)) in
+    c.absolute.ensures ∙ ap nat_abs (stored (held) tt).is

@@ -7,6 +7,7 @@ use Rattle.stored.specs.declared.Layout.{Layout}
 use Rattle.stored.specs.Layout.{record_in, vertex_in}
 use Rattle.check_refusals.specs.Check.{leaf_sixfold, sixfold}
 use Rattle.check_figures.specs.Bounds.{wraps_next}
+use Rattle.check_figures.proofs.sixfold_of.Invariants.{volume_at}
 use Rattle.check_figures.proofs.sixfold_of.Goals as goal
 
 pub loop-n-init : goal.loop-n-init

@@ -13,6 +13,7 @@ use Rattle.stored.specs.declared.Record.{Record}
 use Rattle.stored.specs.Layout.{vertex_in, record_in}
 use Rattle.check_refusals.specs.Refusals.{hangs_on}
 use Rattle.check_inside.specs.Cells.{place_key}
+use Rattle.check_inside.proofs.any_record.Invariants.{hang}
 use Rattle.check_inside.proofs.any_record.Goals as goal
 
 pub loop-n-init : goal.loop-n-init

@@ -10,6 +10,7 @@ use Rattle.stored.specs.declared.Vertex.{Vertex}
 use Rattle.stored.specs.Layout.{vertex_in}
 use Rattle.check_inside.specs.declared.Asking.{Asking}
 use Rattle.check_inside.specs.Cells.{hangs_among}
+use Rattle.check_inside.proofs.any_vertex.Invariants.{hang}
 use Rattle.check_inside.proofs.any_vertex.Goals as goal
 
 pub loop-u-init : goal.loop-u-init

@@ -12,28 +12,29 @@ use Rattle.stored.specs.Layout.{vertex_in}
 use Rattle.check_inside.specs.Cells.{is_corner, is_within, standing, hangs_within, hangs_below}
 use Rattle.check_inside.proofs.hangs_below.Goals as goal
 
-corner : (c : goal.After-is_corner) {b : Bool} → c.is_corner.result ≡ b → is_corner c.args.q c.args.u ≡ b
-corner c h = sym c.is_corner.ensures ∙ h
-
-within : (c : goal.After-is_within) {b : Bool} → c.is_within.result ≡ b → let a = c.args in is_within a.low a.high (vertex_in a.l a.base.now a.grown.now a.u).place ≡ b
-within c h = let a = c.args in sym (c.is_within.ensures ∙ ap (is_within a.low a.high) c.place_in-place.ensures) ∙ h
-
 pub returns-then-count-u : goal.returns-then-count-u
 unfolding hangs_below
 returns-then-count-u c = rw (le-ltb _ _ c.if-count-u.true)
 
 pub returns-then-is_corner : goal.returns-then-is_corner
 unfolding hangs_below hangs_within
-returns-then-is_corner c = rw (lt-ltb _ _ c.if-count-u.false, corner (c) c.if-is_corner.true)
+returns-then-is_corner c =
+    let corner : (b : Bool) → c.is_corner.result ≡ b → is_corner c.args.q c.args.u ≡ b = λ b h. sym c.is_corner.ensures ∙ h in
+    rw (lt-ltb _ _ c.if-count-u.false, corner _ c.if-is_corner.true)
 
 pub returns-then-not-is_within : goal.returns-then-not-is_within
 unfolding hangs_below hangs_within
-returns-then-not-is_within c = rw (lt-ltb _ _ c.if-count-u.false, corner (c) c.if-is_corner.false, within (c) (c.if-not-is_within.true))
+returns-then-not-is_within c =
+    let corner : (b : Bool) → c.is_corner.result ≡ b → is_corner c.args.q c.args.u ≡ b = λ b h. sym c.is_corner.ensures ∙ h in
+    let within : (b : Bool) → c.is_within.result ≡ b → let a = c.args in is_within a.low a.high (vertex_in a.l a.base.now a.grown.now a.u).place ≡ b = λ b h. let a = c.args in sym (c.is_within.ensures ∙ ap (is_within a.low a.high) c.place_in-place.ensures) ∙ h in
+    rw (lt-ltb _ _ c.if-count-u.false, corner _ c.if-is_corner.false, within _ (c.if-not-is_within.true))
 
 pub returns : goal.returns
 unfolding hangs_below hangs_within
 returns c =
-    rw (lt-ltb _ _ c.if-count-u.false, corner (c) c.if-is_corner.false, within (c) (c.if-not-is_within.false))
+    let corner : (b : Bool) → c.is_corner.result ≡ b → is_corner c.args.q c.args.u ≡ b = λ b h. sym c.is_corner.ensures ∙ h in
+    let within : (b : Bool) → c.is_within.result ≡ b → let a = c.args in is_within a.low a.high (vertex_in a.l a.base.now a.grown.now a.u).place ≡ b = λ b h. let a = c.args in sym (c.is_within.ensures ∙ ap (is_within a.low a.high) c.place_in-place.ensures) ∙ h in
+    rw (lt-ltb _ _ c.if-count-u.false, corner _ c.if-is_corner.false, within _ (c.if-not-is_within.false))
     (c.lies_in.ensures ∙ ap (λ (p : Place). lies_in (standing c.args.q) (point_of p)) c.place_in-place.ensures)
 
 pub overflow_cast-u : goal.overflow_cast-u

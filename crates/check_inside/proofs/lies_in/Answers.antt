@@ -12,36 +12,33 @@ use Rattle.grid_inside.specs.Inside.{lies_in}
 use Rattle.check_inside.specs.Cells.{standing}
 use Rattle.check_inside.proofs.lies_in.Goals as goal
 
-part_0 : (c : goal.After-is_negative) {b : Bool} → c.is_negative.result ≡ b → left_handed (put_at 0 (point_of c.args.place) (standing c.args.q)) ≡ b
-unfolding left_handed differences_of
-part_0 c h = sym (c.is_negative.ensures ∙ ap is_negative (to_z-of_z {w = w64} {z = c.signed.result} (record { sfits = c.signed.type-inv }) ∙ c.signed.ensures)) ∙ h
-
-part_1 : (c : goal.After-is_negative-2) {b : Bool} → c.is_negative-2.result ≡ b → left_handed (put_at 1 (point_of c.args.place) (standing c.args.q)) ≡ b
-unfolding left_handed differences_of
-part_1 c h = sym (c.is_negative-2.ensures ∙ ap is_negative (to_z-of_z {w = w64} {z = c.signed-2.result} (record { sfits = c.signed-2.type-inv }) ∙ c.signed-2.ensures)) ∙ h
-
-part_2 : (c : goal.After-is_negative-3) {b : Bool} → c.is_negative-3.result ≡ b → left_handed (put_at 2 (point_of c.args.place) (standing c.args.q)) ≡ b
-unfolding left_handed differences_of
-part_2 c h = sym (c.is_negative-3.ensures ∙ ap is_negative (to_z-of_z {w = w64} {z = c.signed-3.result} (record { sfits = c.signed-3.type-inv }) ∙ c.signed-3.ensures)) ∙ h
-
-part_3 : (c : goal.After-is_negative-4) {b : Bool} → c.is_negative-4.result ≡ b → left_handed (put_at 3 (point_of c.args.place) (standing c.args.q)) ≡ b
-unfolding left_handed differences_of
-part_3 c h = sym (c.is_negative-4.ensures ∙ ap is_negative (to_z-of_z {w = w64} {z = c.signed-4.result} (record { sfits = c.signed-4.type-inv }) ∙ c.signed-4.ensures)) ∙ h
-
 pub returns-then-is_negative : goal.returns-then-is_negative
-unfolding lies_in all_below fold_below
-returns-then-is_negative c = rw (part_0 (c) c.if-is_negative.true)
+unfolding lies_in all_below fold_below left_handed differences_of
+returns-then-is_negative c =
+    let part_0 : (b : Bool) → c.is_negative.result ≡ b → left_handed (put_at 0 (point_of c.args.place) (standing c.args.q)) ≡ b = λ b h. sym (c.is_negative.ensures ∙ ap is_negative (to_z-of_z {w = w64} {z = c.signed.result} (record { sfits = c.signed.type_inv }) ∙ c.signed.ensures)) ∙ h in
+    rw (part_0 _ c.if-is_negative.true)
 
 pub returns-then-is_negative-2 : goal.returns-then-is_negative-2
-unfolding lies_in all_below fold_below
-returns-then-is_negative-2 c = rw (part_0 (c) c.if-is_negative.false, part_1 (c) c.if-is_negative-2.true)
+unfolding lies_in all_below fold_below left_handed differences_of
+returns-then-is_negative-2 c =
+    let part_0 : (b : Bool) → c.is_negative.result ≡ b → left_handed (put_at 0 (point_of c.args.place) (standing c.args.q)) ≡ b = λ b h. sym (c.is_negative.ensures ∙ ap is_negative (to_z-of_z {w = w64} {z = c.signed.result} (record { sfits = c.signed.type_inv }) ∙ c.signed.ensures)) ∙ h in
+    let part_1 : (b : Bool) → c.is_negative-2.result ≡ b → left_handed (put_at 1 (point_of c.args.place) (standing c.args.q)) ≡ b = λ b h. sym (c.is_negative-2.ensures ∙ ap is_negative (to_z-of_z {w = w64} {z = c.signed-2.result} (record { sfits = c.signed-2.type_inv }) ∙ c.signed-2.ensures)) ∙ h in
+    rw (part_0 _ c.if-is_negative.false, part_1 _ c.if-is_negative-2.true)
 
 pub returns-then-is_negative-3 : goal.returns-then-is_negative-3
-unfolding lies_in all_below fold_below
-returns-then-is_negative-3 c = rw (part_0 (c) c.if-is_negative.false, part_1 (c) c.if-is_negative-2.false, part_2 (c) c.if-is_negative-3.true)
+unfolding lies_in all_below fold_below left_handed differences_of
+returns-then-is_negative-3 c =
+    let part_0 : (b : Bool) → c.is_negative.result ≡ b → left_handed (put_at 0 (point_of c.args.place) (standing c.args.q)) ≡ b = λ b h. sym (c.is_negative.ensures ∙ ap is_negative (to_z-of_z {w = w64} {z = c.signed.result} (record { sfits = c.signed.type_inv }) ∙ c.signed.ensures)) ∙ h in
+    let part_1 : (b : Bool) → c.is_negative-2.result ≡ b → left_handed (put_at 1 (point_of c.args.place) (standing c.args.q)) ≡ b = λ b h. sym (c.is_negative-2.ensures ∙ ap is_negative (to_z-of_z {w = w64} {z = c.signed-2.result} (record { sfits = c.signed-2.type_inv }) ∙ c.signed-2.ensures)) ∙ h in
+    let part_2 : (b : Bool) → c.is_negative-3.result ≡ b → left_handed (put_at 2 (point_of c.args.place) (standing c.args.q)) ≡ b = λ b h. sym (c.is_negative-3.ensures ∙ ap is_negative (to_z-of_z {w = w64} {z = c.signed-3.result} (record { sfits = c.signed-3.type_inv }) ∙ c.signed-3.ensures)) ∙ h in
+    rw (part_0 _ c.if-is_negative.false, part_1 _ c.if-is_negative-2.false, part_2 _ c.if-is_negative-3.true)
 
 pub returns : goal.returns
-unfolding lies_in all_below fold_below
+unfolding lies_in all_below fold_below left_handed differences_of
 returns c =
-    rw (part_0 (c) c.if-is_negative.false, part_1 (c) c.if-is_negative-2.false, part_2 (c) c.if-is_negative-3.false)
-    (ap not (sym (part_3 c refl)))
+    let part_0 : (b : Bool) → c.is_negative.result ≡ b → left_handed (put_at 0 (point_of c.args.place) (standing c.args.q)) ≡ b = λ b h. sym (c.is_negative.ensures ∙ ap is_negative (to_z-of_z {w = w64} {z = c.signed.result} (record { sfits = c.signed.type_inv }) ∙ c.signed.ensures)) ∙ h in
+    let part_1 : (b : Bool) → c.is_negative-2.result ≡ b → left_handed (put_at 1 (point_of c.args.place) (standing c.args.q)) ≡ b = λ b h. sym (c.is_negative-2.ensures ∙ ap is_negative (to_z-of_z {w = w64} {z = c.signed-2.result} (record { sfits = c.signed-2.type_inv }) ∙ c.signed-2.ensures)) ∙ h in
+    let part_2 : (b : Bool) → c.is_negative-3.result ≡ b → left_handed (put_at 2 (point_of c.args.place) (standing c.args.q)) ≡ b = λ b h. sym (c.is_negative-3.ensures ∙ ap is_negative (to_z-of_z {w = w64} {z = c.signed-3.result} (record { sfits = c.signed-3.type_inv }) ∙ c.signed-3.ensures)) ∙ h in
+    let part_3 : (b : Bool) → c.is_negative-4.result ≡ b → left_handed (put_at 3 (point_of c.args.place) (standing c.args.q)) ≡ b = λ b h. sym (c.is_negative-4.ensures ∙ ap is_negative (to_z-of_z {w = w64} {z = c.signed-4.result} (record { sfits = c.signed-4.type_inv }) ∙ c.signed-4.ensures)) ∙ h in
+    rw (part_0 _ c.if-is_negative.false, part_1 _ c.if-is_negative-2.false, part_2 _ c.if-is_negative-3.false)
+    (ap not (sym (part_3 _ refl)))

@@ -37,12 +37,6 @@ loop-v-preserved c =
           ∙ ap (linked_below key start) (sym (add-one at.v)),
     )
 
-pub shape_of-heads : goal.shape_of-heads
-shape_of-heads c = ap (λ (links : Links). length links.heads) c.loop-v.invariant.1 ∙ linked_heads_long _ _ c.loop-v.v
-
-pub shape_of-nexts : goal.shape_of-nexts
-shape_of-nexts c = ap (λ (links : Links). length links.nexts) c.loop-v.invariant.1 ∙ linked_nexts_long _ _ c.loop-v.v
-
 pub returns : goal.returns
 returns c =
     let a = c.args in

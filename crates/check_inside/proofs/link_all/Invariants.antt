@@ -12,7 +12,7 @@ use Rattle.check_inside.proofs.link_all.Given as goal
 
 abbrev pub invariant-loop-v : goal.invariant-loop-v
 invariant-loop-v l =     (l.v ≤ l.count)
-    × (links_of l.heads l.nexts ≡ linked_below (λ l.v. place_key (length l.initial.heads) l.width (vertex_in l.l l.base l.grown l.v).place) (links_of l.initial.heads l.initial.nexts) l.v)
+    × (links_of l.heads l.nexts ≡ linked_below (λ u. place_key (length l.initial.heads) l.width (vertex_in l.l l.base l.grown u).place) (links_of l.initial.heads l.initial.nexts) l.v)
 
 abbrev pub decreases-loop-v : goal.decreases-loop-v
 decreases-loop-v l = l.count - l.v

@@ -14,13 +14,6 @@ use Rattle.check_inside.specs.Cells.{lower_of, upper_of, low_of, high_of, standi
 use Rattle.check_inside.specs.Search.{all_asked, cells_asked}
 use Rattle.check_inside.proofs.record_hangs.Goals as goal
 
--- Where neither test took another way, the piece is right-handed.
-right : (c : goal.Else-is_negative) → pos 0 <ℤ signed_of (standing c.asking_of-q.result)
-right c =
-    let z = signed_of (standing c.asking_of-q.result) in
-    let held = to_z-of_z {w = w64} {z = c.signed-signed.result} (record { sfits = c.signed-signed.type-inv }) ∙ c.signed-signed.ensures in
-    positive z (eqb-false (nat_abs z) 0 (sym (c.is_flat.ensures ∙ ap is_flat held) ∙ c.if-is_flat.false)) (sym (c.is_negative.ensures ∙ ap is_negative held) ∙ c.if-is_negative.false)
-
 pub returns-then-is_flat : goal.returns-then-is_flat
 returns-then-is_flat c =
     let g = c.args in
@@ -39,10 +32,13 @@ returns-then-too_many c =
 pub returns : goal.returns
 unfolding low_of high_of
 returns c =
+    let right : pos 0 <ℤ signed_of (standing c.asking_of-q.result) = let z = signed_of (standing c.asking_of-q.result) in
+    let held = to_z-of_z {w = w64} {z = c.signed-signed.result} (record { sfits = c.signed-signed.type_inv }) ∙ c.signed-signed.ensures in
+    positive z (eqb-false (nat_abs z) 0 (sym (c.is_flat.ensures ∙ ap is_flat held) ∙ c.if-is_flat.false)) (sym (c.is_negative.ensures ∙ ap is_negative held) ∙ c.if-is_negative.false) in
     let g = c.args in
     c.any_in_block.ensures
     ∙ cells_asked (vertex_in g.l g.base.now g.grown.now) (record_in g.l g.base.now g.grown.now g.n).piece g.count g.width g.heads.now g.nexts.now
-    c.asking_of-q.ensures some chain (right (c))
+    c.asking_of-q.ensures some chain (right)
     (c.lower-low.ensures ∙ ap₂ lower_of c.lower.ensures c.lower-2.ensures)
     (c.upper-high.ensures ∙ ap₂ upper_of c.upper.ensures c.upper-2.ensures)
     c.slabs_of-from.ensures

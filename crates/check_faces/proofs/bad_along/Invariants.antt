@@ -1,0 +1,17 @@
+-- `check_faces::bad_along` finds from where it stands on what is found from m on.
+-- Assumes nothing.
+use Prim.Native.Nat.{ℕ, ◌-◌}
+use mathlib.Core.Path.{◌≡◌, refl, sym, ◌∙◌, ap}
+use mathlib.Core.Bool.{Bool}
+use native.Mathlib.Omega.{arith}
+use Rattle.laws.specs.Links.{any_along, any_along_none, any_along_found, any_along_past, link_down}
+use Rattle.stored.specs.Layout.{record_in}
+use Rattle.check_faces.specs.Faces.{bad_face}
+use Rattle.check_faces.specs.Linked.{before_from, bad_along}
+use Rattle.check_faces.proofs.bad_along.Given as goal
+
+abbrev pub invariant-loop-to : goal.invariant-loop-to
+invariant-loop-to l = any_along l.nexts (bad_face (record_in l.l l.base l.grown) (before_from (record_in l.l l.base l.grown) l.nexts l.face) l.q l.i l.face) l.to ≡ any_along l.nexts (bad_face (record_in l.l l.base l.grown) (before_from (record_in l.l l.base l.grown) l.nexts l.face) l.q l.i l.face) l.m
+
+abbrev pub decreases-loop-to : goal.decreases-loop-to
+decreases-loop-to l = l.to

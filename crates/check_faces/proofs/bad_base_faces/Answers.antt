@@ -1,0 +1,17 @@
+-- `check_faces::bad_base_faces`: lists that are too short are answered at once, else each record is judged.
+-- Assumes nothing.
+use Rattle.std.proofs.Common.{rules}
+use mathlib.Core.Path.{sym, ◌∙◌}
+use Rattle.laws.specs.Links.{roomy}
+use Rattle.check_refusals.specs.Refusals.{bad_base_faces}
+use Rattle.check_faces.proofs.bad_base_faces.Goals as goal
+
+pub returns-then-is_short : goal.returns-then-is_short
+returns-then-is_short c = rw (sym c.is_short.ensures ∙ c.if-is_short.true)
+
+pub bad_below-requires : goal.bad_below-requires
+bad_below-requires c = roomy _ _ _ (sym c.is_short.ensures ∙ c.if-is_short.false)
+
+pub returns : goal.returns
+unfolding bad_base_faces
+returns c = rw (sym c.is_short.ensures ∙ c.if-is_short.false) (c.bad_below.ensures empty)

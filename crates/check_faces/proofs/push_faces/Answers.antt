@@ -1,0 +1,32 @@
+-- `check_faces::push_faces`: one after the other; the lists stay as long as they are.
+-- Assumes nothing.
+use Rattle.std.proofs.Common.{rules}
+use native.Mathlib.Omega.{arith}
+use Rattle.check_faces.specs.Linked.{four_pushed}
+use Rattle.check_faces.proofs.push_faces.Goals as goal
+
+pub put-requires : goal.put-requires
+put-requires c = (c.requires.keys_within 0 (omega arith), (omega (arith, c.requires.n_in_bounds.0), omega (arith, c.requires.n_in_bounds.1)))
+
+pub put-requires-2 : goal.put-requires-2
+put-requires-2 c =
+    let kept = c.put.auto in
+    (rw kept.0 (c.requires.keys_within 1 (omega arith)), (rw kept.1.0 (omega (arith, c.requires.n_in_bounds.0)), omega (arith, c.requires.n_in_bounds.1)))
+
+pub put-requires-3 : goal.put-requires-3
+put-requires-3 c =
+    let kept = c.put.auto in
+    let kept2 = c.put-2.auto in
+    (rw (kept2.0, kept.0) (c.requires.keys_within 2 (omega arith)), (rw (kept2.1.0, kept.1.0) (omega (arith, c.requires.n_in_bounds.0)), omega (arith, c.requires.n_in_bounds.1)))
+
+pub put-requires-4 : goal.put-requires-4
+put-requires-4 c =
+    let kept = c.put.auto in
+    let kept2 = c.put-2.auto in
+    let kept3 = c.put-3.auto in
+    (rw (kept3.0, kept2.0, kept.0) (c.requires.keys_within 3 (omega arith)), (rw (kept3.1.0, kept2.1.0, kept.1.0) (omega (arith, c.requires.n_in_bounds.0)), omega (arith, c.requires.n_in_bounds.1)))
+
+pub returns : goal.returns
+returns c =
+    let a = c.args in
+    four_pushed a.own a.n _ _ _ _ _ c.put.ensures c.put-2.ensures c.put-3.ensures c.put-4.ensures

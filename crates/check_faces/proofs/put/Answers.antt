@@ -1,0 +1,15 @@
+-- `check_faces::put` writes both entries, for which there is room.
+-- Assumes nothing.
+use Rattle.std.proofs.Common.{rules}
+use Prim.Native.Nat.{ℕ}
+use mathlib.Core.Path.{sym, ap, ◌∙◌}
+use native.Mathlib.Numerals.{add-one}
+use lib.ListN.{get_or, set}
+use Rattle.laws.specs.Links.{links_of, pushed_there}
+use Rattle.check_faces.proofs.put.Goals as goal
+
+pub returns : goal.returns
+returns c =
+    let a = c.args in
+    ap (λ (t : ℕ). links_of (set a.heads.now a.k t) (set a.nexts.now a.f (get_or a.heads.now a.k 0))) (add-one a.f)
+    ∙ sym (pushed_there (links_of a.heads.now a.nexts.now) a.k a.f c.requires.k_in_bounds c.requires.f_in_bounds.0 c.requires.f_in_bounds.1)
