@@ -13,8 +13,8 @@ fn main() {
     println!("cargo:rerun-if-changed={}", archive.display());
     if !archive.is_file() {
         eprintln!(
-            "{} is not there: run `rt staticlib station` in the root folder of the repository, \
-             or set STATION_DIR to the folder that holds libstation.a",
+            "{} is not there: run `./install` or `.ci/run`, which make it, or set STATION_DIR to the folder \
+             that holds libstation.a",
             archive.display()
         );
         std::process::exit(1);

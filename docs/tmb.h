@@ -1,5 +1,5 @@
 /*
- * The C functions of libstation.a, which `rt staticlib station` writes to target/staticlib.
+ * The C functions of libstation.a, which ./install makes of crates/station_c and puts below lib.
  *
  * None of them keeps anything between calls or asks for memory: what a call works with stands on its
  * stack, of which it takes less than 256 KiB.

@@ -12,19 +12,20 @@ use std::thread;
 use std::time::Duration;
 
 const PROVED: &str = "\
-making tmb: the services are being proved, once; this takes some minutes; crates left: 4
-making tmb: laws is proved, crates left: 3
-making tmb: stored is proved, crates left: 2
-making tmb: list is proved, crates left: 1
-making tmb: station is proved, crates left: 0
+making tmb: the services are being proved, once; this takes some minutes; crates left: 5
+making tmb: laws is proved, crates left: 4
+making tmb: stored is proved, crates left: 3
+making tmb: list is proved, crates left: 2
 making tmb: the library is being made
+making tmb: station is proved, crates left: 1
+making tmb: station_c is proved, crates left: 0
 making tmb: the command is being compiled
 ";
 const UNCHANGED: &str = "\
 making tmb: the services were proved before; what has changed since is proved again
 making tmb: the command is being compiled
 ";
-const CALLS: &str = "rt check list station\nrt staticlib station\ncargo build\n";
+const CALLS: &str = "list: rt run\nstation_c: rt lib\ncargo build\n";
 
 fn package() -> &'static Path {
     Path::new(env!("CARGO_MANIFEST_DIR"))
@@ -38,19 +39,18 @@ struct Tree {
 
 impl Tree {
     fn new(name: &str) -> Tree {
-        let root = Path::new(env!("CARGO_TARGET_TMPDIR")).join(format!("making {name}"));
+        // Outside the repository: rt ci refuses a second crates.txt there.
+        let root = std::env::temp_dir().join(format!("making {name} {}", std::process::id()));
         let _ = fs::remove_dir_all(&root);
-        for folder in ["docs", "command/src", "elsewhere", "kit"] {
+        for folder in ["docs", "command/src", "elsewhere"] {
             fs::create_dir_all(root.join(folder)).unwrap();
         }
-        // The stand-in for rt needs nothing more of a kit, on whichever processor.
-        fs::write(root.join("kit/native"), "").unwrap();
-        for name in ["laws", "stored", "unneeded", "list", "station"] {
-            fs::create_dir_all(root.join("crates").join(name)).unwrap();
+        for name in ["laws", "stored", "unneeded", "list", "station", "station_c"] {
+            fs::create_dir_all(root.join("crates").join(name).join("src")).unwrap();
         }
         let crates =
             "# the crates\nlaws:\nstored: laws\nunneeded: laws\nlist: io stored # listing\n\
-                      station: stored\n";
+                      station: stored\nstation_c staticlib: station stored\n";
         fs::write(root.join("crates.txt"), crates).unwrap();
         for name in [
             "command/src/main.rs",
@@ -86,7 +86,6 @@ impl Tree {
         command
             .current_dir(self.root.join("elsewhere"))
             .env("PATH", &self.path)
-            .env("RATTLE_HOME", self.root.join("kit"))
             .env_remove("CARGO_TARGET_DIR")
             .env_remove("DESTDIR")
             .stdin(Stdio::null())
@@ -129,6 +128,12 @@ impl Tree {
     }
 }
 
+impl Drop for Tree {
+    fn drop(&mut self) {
+        let _ = fs::remove_dir_all(&self.root);
+    }
+}
+
 #[track_caller]
 fn wrote(output: &Output, status: i32, stdout: &str, stderr: &str) {
     assert_eq!(String::from_utf8_lossy(&output.stderr), stderr);
@@ -139,6 +144,7 @@ fn wrote(output: &Output, status: i32, stdout: &str, stderr: &str) {
 #[test]
 fn made_once() {
     let tree = Tree::new("once");
+    tree.put("crates/stored/src/gone");
     wrote(&tree.tmb(), 0, &tree.ran(), PROVED);
     assert_eq!(tree.calls(), CALLS);
     wrote(&tree.tmb(), 0, &tree.ran(), "");
@@ -150,7 +156,7 @@ fn made_once() {
         let touched = Command::new("touch").arg(tree.root.join(source)).status();
         assert!(touched.unwrap().success());
         wrote(&tree.tmb(), 0, &tree.ran(), UNCHANGED);
-        assert_eq!(tree.calls(), "rt check list station\ncargo build\n");
+        assert_eq!(tree.calls(), "cargo build\n");
         wrote(&tree.tmb(), 0, &tree.ran(), "");
     }
     // Also what is gone.
@@ -159,19 +165,32 @@ fn made_once() {
     fs::remove_file(tree.root.join("target/tmb/bin/tmb-list")).unwrap();
     wrote(&tree.tmb(), 0, &tree.ran(), UNCHANGED);
     tree.calls();
-    // A changed crate is proved again; the library is made again if it stands on it.
-    let again = |name: &str, left: u32| {
-        format!("making tmb: {name} is proved, crates left: {left}\nmaking tmb: the ")
-    };
-    tree.put("crates/list/new");
-    let said = UNCHANGED.replace("making tmb: the command", &(again("list", 1) + "command"));
+    // A changed crate is proved again; what stands on it is made again, and nothing else.
+    let again =
+        |name: &str, left: u32| format!("making tmb: {name} is proved, crates left: {left}\n");
+    let command = "making tmb: the command";
+    tree.put("crates/list/src/new");
+    let said = UNCHANGED.replace(command, &(again("list", 2) + command));
     wrote(&tree.tmb(), 0, &tree.ran(), &said);
-    assert_eq!(tree.calls(), "rt check list station\ncargo build\n");
-    tree.put("crates/station/new");
-    let library = again("station", 0) + "library is being made\nmaking tmb: the command";
-    let said = UNCHANGED.replace("making tmb: the command", &library);
+    assert_eq!(tree.calls(), "list: rt run\ncargo build\n");
+    let library = "making tmb: the library is being made\n".to_string();
+    tree.put("crates/station/src/new");
+    let both = again("station", 1) + &again("station_c", 0);
+    let said = UNCHANGED.replace(command, &(library.clone() + &both + command));
+    wrote(&tree.tmb(), 0, &tree.ran(), &said);
+    assert_eq!(tree.calls(), "station_c: rt lib\ncargo build\n");
+    tree.remove("crates/stored/src/gone");
+    let both = again("stored", 3) + &again("list", 2) + &library + &both;
+    let said = UNCHANGED.replace(command, &(both + command));
     wrote(&tree.tmb(), 0, &tree.ran(), &said);
     assert_eq!(tree.calls(), CALLS);
+    // What rt keeps of its own in a crate's out/ is no change, nor is a crate that nothing here stands on.
+    fs::create_dir(tree.root.join("crates/unneeded/out")).unwrap();
+    tree.put("crates/list/out/kept");
+    wrote(&tree.tmb(), 0, &tree.ran(), "");
+    tree.put("crates/unneeded/src/new");
+    wrote(&tree.tmb(), 0, &tree.ran(), UNCHANGED);
+    assert_eq!(tree.calls(), "cargo build\n");
 }
 
 /// The command's standard input is not read by what makes it, and its words and folder are the caller's,
@@ -238,8 +257,7 @@ fn several_at_once() {
     for child in [run("one"), run("two")] {
         assert_eq!(child.wait_with_output().unwrap().status.code(), Some(0));
     }
-    let one = "rt check list station\ncargo build\n";
-    assert_eq!(tree.calls(), [one, one].concat());
+    assert_eq!(tree.calls(), "cargo build\n".repeat(2));
 }
 
 /// Nothing is run, the end of the log and where it stands are said, and the next time it is tried again.
@@ -252,11 +270,11 @@ fn the_making_fails() {
     };
     let first = PROVED.lines().next().unwrap().to_string() + "\n";
     tree.put("rt-fails");
-    let told = "rt: laws NOT PROVED (exit 1, 0 s)\nrt: FAILED: laws\n";
+    let told = "rt: the library laws did not build, so nothing above it was checked\n";
     let said = first + told + &log("the services could not be proved");
     for _ in 0..2 {
         wrote(&tree.tmb(), 2, "", &said);
-        assert_eq!(tree.calls(), "rt check list station\n");
+        assert_eq!(tree.calls(), "list: rt run\n");
     }
     tree.remove("rt-fails");
     tree.put("cargo-fails");
@@ -310,7 +328,7 @@ fn killed() {
     let killed = Command::new("kill").args(["-9", "--", &all]).status();
     assert!(killed.unwrap().success());
     assert_eq!(child.wait_with_output().unwrap().stdout, b"");
-    assert_eq!(tree.calls(), "rt check list station\n");
+    assert_eq!(tree.calls(), "list: rt run\n");
     tree.remove("slow");
     wrote(&tree.tmb(), 0, &tree.ran(), PROVED);
 }
@@ -346,7 +364,7 @@ fn a_tool_is_missing() {
     ] {
         add(name);
     }
-    for name in ["awk", "sed", "tail"] {
+    for name in ["awk", "sed", "tail", "tr", "cp", "touch"] {
         add(name);
     }
     tree.path = tools.clone().into();

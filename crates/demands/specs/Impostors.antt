@@ -65,17 +65,17 @@ module _ (S : Services) (m : MeetsDemand2 S) where
         λ e. m.closing s x selection good room e ∙ sym (demand_2.closing s x selection good room (own.1 (theirs.0 e))),
       )
 
-  accepts__k : (job : ℕ) → job < 4294967296 → S.build job K-coordinates K-corners 77 ≡ 0
-  accepts__k job small = (m.build_accepts job K-coordinates K-corners (K-types job small) 77).1 K-accepts
+  accepts_k : (job : ℕ) → job < 4294967296 → S.build job K-coordinates K-corners 77 ≡ 0
+  accepts_k job small = (m.build_accepts job K-coordinates K-corners (K-types job small) 77).1 K-accepts
 
-  builds__k : (job : ℕ) (small : job < 4294967296) → S.build_out job K-coordinates K-corners 77 ≡ ours.build_out job K-coordinates K-corners 77
-  builds__k job small = (builds_ours job K-coordinates K-corners (K-types job small) 77).1 (accepts__k job small)
+  builds_k : (job : ℕ) (small : job < 4294967296) → S.build_out job K-coordinates K-corners 77 ≡ ours.build_out job K-coordinates K-corners 77
+  builds_k job small = (builds_ours job K-coordinates K-corners (K-types job small) 77).1 (accepts_k job small)
 
-  raises__k : S.refine (stored1 K) (none_named 0) 77 ≡ 0
-  raises__k = (refines_ours (stored1 K) K-stored (none_named 0) none_good 77).0.1 K-raised
+  raises_k : S.refine (stored1 K) (none_named 0) 77 ≡ 0
+  raises_k = (refines_ours (stored1 K) K-stored (none_named 0) none_good 77).0.1 K-raised
 
-  raises__k_again : S.refine (stored1 K-next) (none_named 1) 77 ≡ 0
-  raises__k_again = (refines_ours (stored1 K-next) K-next-stored (none_named 1) none_good_again 77).0.1 K-raised-again
+  raises_k_again : S.refine (stored1 K-next) (none_named 1) 77 ≡ 0
+  raises_k_again = (refines_ours (stored1 K-next) K-next-stored (none_named 1) none_good_again 77).0.1 K-raised-again
 
   -- "One that refuses everything": every mesh,
   pub refuses_every_mesh : ((s : Stored) → (S.check s).number ≢ 0) → ⊥
@@ -83,18 +83,18 @@ module _ (S : Services) (m : MeetsDemand2 S) where
 
   -- every list,
   pub refuses_every_list : ((job : ℕ) (coordinates : List ℤ) (corners : List ℕ) (room : ℕ) → S.build job coordinates corners room ≢ 0) → ⊥
-  refuses_every_list refuses = refuses 7 K-coordinates K-corners 77 (accepts__k 7 (omega arith))
+  refuses_every_list refuses = refuses 7 K-coordinates K-corners 77 (accepts_k 7 (omega arith))
 
   -- every selection.
   pub refuses_every_selection : ((mesh : Stored) (selection : StoredSelection) (room : ℕ) → S.refine mesh selection room ≢ 0) → ⊥
-  refuses_every_selection refuses = refuses (stored1 K) (none_named 0) 77 raises__k
+  refuses_every_selection refuses = refuses (stored1 K) (none_named 0) 77 raises_k
 
   -- "one that always hands back the same mesh": build, of jobs 7 and 8;
   pub builds_the_same_mesh : (same : List ℕ) →
       ((job : ℕ) (coordinates : List ℤ) (corners : List ℕ) (room : ℕ) → S.build job coordinates corners room ≡ 0 → S.build_out job coordinates corners room ≡ zero_past room same) → ⊥
   builds_the_same_mesh same habit =
-      let seven = sym (habit 7 K-coordinates K-corners 77 (accepts__k 7 (omega arith))) ∙ builds__k 7 (omega arith) in
-      let eight = sym (habit 8 K-coordinates K-corners 77 (accepts__k 8 (omega arith))) ∙ builds__k 8 (omega arith) in
+      let seven = sym (habit 7 K-coordinates K-corners 77 (accepts_k 7 (omega arith))) ∙ builds_k 7 (omega arith) in
+      let eight = sym (habit 8 K-coordinates K-corners 77 (accepts_k 8 (omega arith))) ∙ builds_k 8 (omega arith) in
       let both = ap (λ (l : List ℕ). get_or l 5 0) (sym seven ∙ eight) in
       omega (arith, both, K-job-7, K-job-8)
 
@@ -102,15 +102,15 @@ module _ (S : Services) (m : MeetsDemand2 S) where
   pub refines_to_the_same_mesh : (same : List ℕ) →
       ((mesh : Stored) (selection : StoredSelection) (room : ℕ) → S.refine mesh selection room ≡ 0 → S.refine_out mesh selection room ≡ zero_past room same) → ⊥
   refines_to_the_same_mesh same habit =
-      let first = sym (habit (stored1 K) (none_named 0) 77 raises__k) ∙ (refines_ours (stored1 K) K-stored (none_named 0) none_good 77).1 raises__k in
-      let second = sym (habit (stored1 K-next) (none_named 1) 77 raises__k_again) ∙ (refines_ours (stored1 K-next) K-next-stored (none_named 1) none_good_again 77).1 raises__k_again in
+      let first = sym (habit (stored1 K) (none_named 0) 77 raises_k) ∙ (refines_ours (stored1 K) K-stored (none_named 0) none_good 77).1 raises_k in
+      let second = sym (habit (stored1 K-next) (none_named 1) 77 raises_k_again) ∙ (refines_ours (stored1 K-next) K-next-stored (none_named 1) none_good_again 77).1 raises_k_again in
       let both = ap (λ (l : List ℕ). get_or l 9 0) (sym first ∙ second) in
       omega (arith, both, K-raised-round, K-raised-again-round)
 
   -- "or copies its input".
   pub copies_its_input : ((mesh : Stored) (selection : StoredSelection) (room : ℕ) → S.refine mesh selection room ≡ 0 → S.refine_out mesh selection room ≡ zero_past room mesh.base) → ⊥
   copies_its_input habit =
-      let out = sym (habit (stored1 K) (none_named 0) 77 raises__k) ∙ (refines_ours (stored1 K) K-stored (none_named 0) none_good 77).1 raises__k in
+      let out = sym (habit (stored1 K) (none_named 0) 77 raises_k) ∙ (refines_ours (stored1 K) K-stored (none_named 0) none_good 77).1 raises_k in
       let both = ap (λ (l : List ℕ). get_or l 9 0) out in
       omega (arith, both, K-raised-round, K-copied-round)
 

@@ -4,7 +4,7 @@ use Rattle.laws.specs.Below.{all_below}
 use Rattle.piece.specs.declared.Piece.{Piece}
 use Rattle.piece.specs.Shape.{Shape, Valid, shape_of, type_p, type_a, type_o, type_m, set_p, unset_p, flag_fits, valid_shape}
 use Rattle.piece_cut.specs.Cut.{child_shape, cut_of}
-use Rattle.piece_cut.specs.Theorems.{End, unset__p_gives_set__p, set__p_gives__a, others_give_unset__p}
+use Rattle.piece_cut.specs.Theorems.{End, unset_p_gives_set_p, set_p_gives_a, others_give_unset_p}
 use Rattle.grid.specs.Places.{point_of}
 use Rattle.stored.specs.Layout.{stored1, StoredSelection, selection1}
 use Rattle.mesh_tables.specs.Tables.{Tables, tables_of, piece_at, is_cut, refinement_ends, sixfold_at}
@@ -113,20 +113,20 @@ pub record StarredRows : Type 0 where
   pub with_all_sixfold : all_below 15 (λ n. is_cut with_all n || eqb (sixfold_at with_all.vertex_at (piece_at with_all n)) 32768) ≡ true
   -- "With refinement edge 0 and marks of faces (1, 0): P (1, 3), A (1, 4), O (5, 5), M (1, 5). P unset gives two P set; P set gives two A; A, O, M
   -- give two P unset."
-  pub unset__p : is unset_p (with_marks 1 3 0) ≡ true
-  pub set__p : is set_p (with_marks 1 3 1) ≡ true
-  pub type__a : is type_a (with_marks 1 4 0) ≡ true
-  pub type__o : is type_o (with_marks 5 5 0) ≡ true
-  pub type__m : is type_m (with_marks 1 5 0) ≡ true
-  pub unset__p_gives : gives_two set_p (with_marks 1 3 0) ≡ true
-  pub set__p_gives : gives_two type_a (with_marks 1 3 1) ≡ true
+  pub unset_p_lem : is unset_p (with_marks 1 3 0) ≡ true
+  pub set_p_lem : is set_p (with_marks 1 3 1) ≡ true
+  pub type_a_lem : is type_a (with_marks 1 4 0) ≡ true
+  pub type_o_lem : is type_o (with_marks 5 5 0) ≡ true
+  pub type_m_lem : is type_m (with_marks 1 5 0) ≡ true
+  pub unset_p_gives : gives_two set_p (with_marks 1 3 0) ≡ true
+  pub set_p_gives : gives_two type_a (with_marks 1 3 1) ≡ true
   pub A-gives : gives_two unset_p (with_marks 1 4 0) ≡ true
   pub O-gives : gives_two unset_p (with_marks 5 5 0) ≡ true
   pub M-gives : gives_two unset_p (with_marks 1 5 0) ≡ true
   -- The same of every valid shape and of both children: k is the slot of an end of the refinement edge, where the child has the new vertex.
-  pub every_unset__p_gives : (s : Shape) → Valid s → (k : ℕ) → End s k → unset_p s ≡ true → (type_p (child_shape s k) ≡ true) × ((child_shape s k).flag ≡ 1)
-  pub every_set__p_gives : (s : Shape) → Valid s → (k : ℕ) → End s k → set_p s ≡ true → (type_a (child_shape s k) ≡ true) × ((child_shape s k).flag ≡ 0)
-  pub every__a__o__m_gives : (s : Shape) → Valid s → (k : ℕ) → End s k → (type_a s || (type_o s || type_m s)) ≡ true → (type_p (child_shape s k) ≡ true) × ((child_shape s k).flag ≡ 0)
+  pub every_unset_p_gives : (s : Shape) → Valid s → (k : ℕ) → End s k → unset_p s ≡ true → (type_p (child_shape s k) ≡ true) × ((child_shape s k).flag ≡ 1)
+  pub every_set_p_gives : (s : Shape) → Valid s → (k : ℕ) → End s k → set_p s ≡ true → (type_a (child_shape s k) ≡ true) × ((child_shape s k).flag ≡ 0)
+  pub every_a_o_m_gives : (s : Shape) → Valid s → (k : ℕ) → End s k → (type_a s || (type_o s || type_m s)) ≡ true → (type_p (child_shape s k) ≡ true) × ((child_shape s k).flag ≡ 0)
   -- "Empty selection on K: round 1, all else equal."
   pub empty_accepted : refine_number (stored1 K) (selection1 (selecting 7 0 0 [])) 77 ≡ 0
   pub empty_bytes : refine_bytes (stored1 K) (selection1 (selecting 7 0 0 [])) 77 ≡ K-of 1
@@ -178,19 +178,19 @@ starred =
       with_all_records = refl;
       with_all_leaves = refl;
       with_all_sixfold = refl;
-      unset__p = refl;
-      set__p = refl;
-      type__a = refl;
-      type__o = refl;
-      type__m = refl;
-      unset__p_gives = refl;
-      set__p_gives = refl;
+      unset_p_lem = refl;
+      set_p_lem = refl;
+      type_a_lem = refl;
+      type_o_lem = refl;
+      type_m_lem = refl;
+      unset_p_gives = refl;
+      set_p_gives = refl;
       A-gives = refl;
       O-gives = refl;
       M-gives = refl;
-      every_unset__p_gives = unset__p_gives_set__p;
-      every_set__p_gives = set__p_gives__a;
-      every__a__o__m_gives = others_give_unset__p;
+      every_unset_p_gives = unset_p_gives_set_p;
+      every_set_p_gives = set_p_gives_a;
+      every_a_o_m_gives = others_give_unset_p;
       empty_accepted = refl;
       empty_bytes = refl;
       expired = refl;

@@ -77,19 +77,19 @@ module _ (s : Shape) (v : Valid s) (k : ℕ) (end : End s k) where
   row = every_cut type_row type_row_holds s v k end
 
   -- P unset gives two P set.
-  pub unset__p_gives_set__p : unset_p s ≡ true → (type_p (child_shape s k) ≡ true) × ((child_shape s k).flag ≡ 1)
-  unset__p_gives_set__p t = given type_p 1 s k (only_if_holds (unset_p s) (gives type_p 1 s k) (and_left (only_if (unset_p s) (gives type_p 1 s k)) Row row) t)
+  pub unset_p_gives_set_p : unset_p s ≡ true → (type_p (child_shape s k) ≡ true) × ((child_shape s k).flag ≡ 1)
+  unset_p_gives_set_p t = given type_p 1 s k (only_if_holds (unset_p s) (gives type_p 1 s k) (and_left (only_if (unset_p s) (gives type_p 1 s k)) Row row) t)
 
   -- P set gives two A.
-  pub set__p_gives__a : set_p s ≡ true → (type_a (child_shape s k) ≡ true) × ((child_shape s k).flag ≡ 0)
-  set__p_gives__a t =
+  pub set_p_gives_a : set_p s ≡ true → (type_a (child_shape s k) ≡ true) × ((child_shape s k).flag ≡ 0)
+  set_p_gives_a t =
       given type_a 0 s k
       (only_if_holds (set_p s) (gives type_a 0 s k)
       (and_left (only_if (set_p s) (gives type_a 0 s k)) (only_if (type_a s || (type_o s || type_m s)) (gives type_p 0 s k)) (and_right (only_if (unset_p s) (gives type_p 1 s k)) Row row)) t)
 
   -- A, O and M give two P unset.
-  pub others_give_unset__p : (type_a s || (type_o s || type_m s)) ≡ true → (type_p (child_shape s k) ≡ true) × ((child_shape s k).flag ≡ 0)
-  others_give_unset__p t =
+  pub others_give_unset_p : (type_a s || (type_o s || type_m s)) ≡ true → (type_p (child_shape s k) ≡ true) × ((child_shape s k).flag ≡ 0)
+  others_give_unset_p t =
       given type_p 0 s k
       (only_if_holds (type_a s || (type_o s || type_m s)) (gives type_p 0 s k)
       (and_right (only_if (set_p s) (gives type_a 0 s k)) (only_if (type_a s || (type_o s || type_m s)) (gives type_p 0 s k)) (and_right (only_if (unset_p s) (gives type_p 1 s k)) Row row)) t)

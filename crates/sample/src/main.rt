@@ -2,150 +2,173 @@
 // buffer is as long as the result.
 #![tactic(auto)]
 
-use libc::STDOUT_FILENO;
+use std::io;
 use stored::Layout;
 
-fn print_figure(name: &[u8], figure: u64) {
-    io::write_all(STDOUT_FILENO, name);
-    io::print_decimal(STDOUT_FILENO, figure);
+fn print_figure(rt: &impl Print, name: &[u8], figure: u64) -> io::Result<()> {
+    rt.write_all(name)?;
+    rt.print(figure)
 }
 
-fn print_corners(corners: [u32; 4]) {
-    print_figure(b" corners ", corners[0] as u64);
-    print_figure(b" ", corners[1] as u64);
-    print_figure(b" ", corners[2] as u64);
-    print_figure(b" ", corners[3] as u64);
+fn print_corners(rt: &impl Print, corners: [u32; 4]) -> io::Result<()> {
+    print_figure(rt, b" corners ", corners[0] as u64)?;
+    print_figure(rt, b" ", corners[1] as u64)?;
+    print_figure(rt, b" ", corners[2] as u64)?;
+    print_figure(rt, b" ", corners[3] as u64)
 }
 
-fn print_marks(edge: u8, marks: [u8; 4]) {
-    print_figure(b" edge ", edge as u64);
-    print_figure(b" marks ", marks[0] as u64);
-    print_figure(b" ", marks[1] as u64);
-    print_figure(b" ", marks[2] as u64);
-    print_figure(b" ", marks[3] as u64);
+fn print_marks(rt: &impl Print, edge: u8, marks: [u8; 4]) -> io::Result<()> {
+    print_figure(rt, b" edge ", edge as u64)?;
+    print_figure(rt, b" marks ", marks[0] as u64)?;
+    print_figure(rt, b" ", marks[1] as u64)?;
+    print_figure(rt, b" ", marks[2] as u64)?;
+    print_figure(rt, b" ", marks[3] as u64)
 }
 
-fn print_record(l: Layout, mesh: &[u8], n: usize) {
+fn print_record(rt: &impl Print, l: Layout, mesh: &[u8], n: usize) -> io::Result<()> {
     let nothing = &mesh[..0];
     let record = stored_entries::record_in(l, mesh, nothing, n);
     let p = record.piece;
     let ends = mesh_tables::refinement_ends(l, mesh, nothing, n);
-    print_figure(b"  record ", n as u64);
+    print_figure(rt, b"  record ", n as u64)?;
     let corners = p.corners;
-    print_corners(corners);
+    print_corners(rt, corners)?;
     let marks = p.marks;
-    print_marks(p.edge, marks);
-    print_figure(b" cut next at ", ends.lower as u64);
-    print_figure(b"-", ends.higher as u64);
-    print_figure(b" sixfold ", check_figures::sixfold_at(l, mesh, nothing, n));
-    io::write_all(STDOUT_FILENO, b"\n");
+    print_marks(rt, p.edge, marks)?;
+    print_figure(rt, b" cut next at ", ends.lower as u64)?;
+    print_figure(rt, b"-", ends.higher as u64)?;
+    print_figure(
+        rt,
+        b" sixfold ",
+        check_figures::sixfold_at(l, mesh, nothing, n),
+    )?;
+    rt.write_all(b"\n")
 }
 
-fn print_leaves(mesh: &[u8]) {
+fn print_leaves(rt: &impl Print, mesh: &[u8]) -> io::Result<()> {
     let k = stored::kind_1();
     let h = stored_headers::header_from(k.format, mesh);
     let l = stored::layout_of(k, h);
     let count = h.records as usize;
-    let mut n: usize = 0;
-    while n < count {
+    for n in 0..count {
         if mesh_tables::is_leaf(l, mesh, &mesh[..0], n) {
-            print_record(l, mesh, n);
+            print_record(rt, l, mesh, n)?;
         }
-        n += 1;
     }
+    Ok(())
 }
 
 // What build or refine gave, and what check says of the output.
-fn shown(service: &[u8], number: u32, out: &[u8]) {
-    print_figure(service, number as u64);
+fn shown(rt: &impl Print, service: &[u8], number: u32, out: &[u8]) -> io::Result<()> {
+    print_figure(rt, service, number as u64)?;
     if number != 0 {
-        io::write_all(STDOUT_FILENO, b"\n");
-        return;
+        return rt.write_all(b"\n");
     }
     let h = stored_headers::header_from(stored::version_1(), out);
-    print_figure(b", round ", h.round as u64);
-    print_figure(b", vertices ", h.vertices as u64);
-    print_figure(b", records ", h.records as u64);
+    print_figure(rt, b", round ", h.round as u64)?;
+    print_figure(rt, b", vertices ", h.vertices as u64)?;
+    print_figure(rt, b", records ", h.records as u64)?;
     let report = check_service::check(out);
-    print_figure(b", check ", report.number);
-    print_figure(b", leaves ", report.leaves);
-    print_figure(b", deepest ", report.deepest);
-    print_figure(b", sixfold ", report.sixfold);
-    io::write_all(STDOUT_FILENO, b"\n");
-    print_leaves(out);
+    print_figure(rt, b", check ", report.number)?;
+    print_figure(rt, b", leaves ", report.leaves)?;
+    print_figure(rt, b", deepest ", report.deepest)?;
+    print_figure(rt, b", sixfold ", report.sixfold)?;
+    rt.write_all(b"\n")?;
+    print_leaves(rt, out)
 }
 
-fn built(row: &[u8], coordinates: &[i16], corners: &[u16], out: &mut [u8]) {
-    io::write_all(STDOUT_FILENO, row);
+fn built(
+    rt: &impl Print,
+    row: &[u8],
+    coordinates: &[i16],
+    corners: &[u16],
+    out: &mut [u8],
+) -> io::Result<()> {
+    rt.write_all(row)?;
     let number = build_service::build(7, coordinates, corners, out);
-    shown(b": build ", number, out);
+    shown(rt, b": build ", number, out)
 }
 
-fn refined<'a>(row: &[u8], mesh: &'a [u8], selection: &'a [u8], out: &mut [u8]) {
-    io::write_all(STDOUT_FILENO, row);
+fn refined<'a>(
+    rt: &impl Print,
+    row: &[u8],
+    mesh: &'a [u8],
+    selection: &'a [u8],
+    out: &mut [u8],
+) -> io::Result<()> {
+    rt.write_all(row)?;
     let number = refine_service::refine(mesh, selection, out);
-    shown(b": refine ", number, out);
+    shown(rt, b": refine ", number, out)
 }
 
 // From K cut into four, with its seven records.
-fn then(quarters: &[u8]) {
+fn then(rt: &impl Print, quarters: &[u8]) -> io::Result<()> {
     let mut some = [0u8; 287];
     let select_4 = b"TMS\x01\0\x07\0\0\0\x02\0\x01\0\x04\0";
-    refined(b"From there select 4 alone", quarters, select_4, &mut some);
+    refined(
+        rt,
+        b"From there select 4 alone",
+        quarters,
+        select_4,
+        &mut some,
+    )?;
     let mut eighths = [0u8; 375];
     let select_3_to_6 = b"TMS\x01\0\x07\0\0\0\x02\0\x04\0\x03\0\x04\0\x05\0\x06\0";
     refined(
+        rt,
         b"Select 3 to 6 instead",
         quarters,
         select_3_to_6,
         &mut eighths,
-    );
+    )
 }
 
 // Selections of round 0, with K in round 1.
-fn expired(halves: &[u8]) {
+fn expired(rt: &impl Print, halves: &[u8]) -> io::Result<()> {
     let mut out = [0u8; stored::LARGEST];
     let round_0 = b"TMS\x01\0\x07\0\0\0\0\0\x01\0\x01\0";
     refined(
+        rt,
         b"Selection of round 0 on a mesh of round 1",
         halves,
         round_0,
         &mut out,
-    );
+    )?;
     let job_8 = b"TMS\x01\0\x08\0\0\0\0\0\x01\0\x01\0";
-    refined(b"With the job wrong too", halves, job_8, &mut out);
+    refined(rt, b"With the job wrong too", halves, job_8, &mut out)
 }
 
-fn k_rows() {
+fn k_rows(rt: &impl Print) -> io::Result<()> {
     let mut k = [0u8; 77];
     let coordinates: [i16; 12] = [0, 0, 0, 64, 0, 0, 64, 64, 0, 64, 64, 64];
     let corners: [u16; 4] = [0, 1, 2, 3];
-    built(b"K", &coordinates, &corners, &mut k);
+    built(rt, b"K", &coordinates, &corners, &mut k)?;
 
     let select_0 = b"TMS\x01\0\x07\0\0\0\0\0\x01\0\0\0";
     let mut halves = [0u8; 121];
-    refined(b"K, select 0", &k, select_0, &mut halves);
+    refined(rt, b"K, select 0", &k, select_0, &mut halves)?;
     let mut short = [0u8; 120];
-    refined(b"An output buffer of 120", &k, select_0, &mut short);
+    refined(rt, b"An output buffer of 120", &k, select_0, &mut short)?;
 
     let select_1_and_2 = b"TMS\x01\0\x07\0\0\0\x01\0\x02\0\x01\0\x02\0";
     let mut quarters = [0u8; 209];
     refined(
+        rt,
         b"Then select 1 and 2",
         &halves,
         select_1_and_2,
         &mut quarters,
-    );
-    then(&quarters);
+    )?;
+    then(rt, &quarters)?;
 
     let select_none = b"TMS\x01\0\x07\0\0\0\0\0\0\0";
     let mut again = [0u8; 77];
-    refined(b"Empty selection on K", &k, select_none, &mut again);
-    expired(&halves);
+    refined(rt, b"Empty selection on K", &k, select_none, &mut again)?;
+    expired(rt, &halves)
 }
 
 // "The cube of side 64 as six pieces round the diagonal".
-fn cube_rows() {
+fn cube_rows(rt: &impl Print) -> io::Result<()> {
     let coordinates: [i16; 24] = [
         // vertices 0 to 3
         0, 0, 0, 64, 0, 0, 0, 64, 0, 64, 64, 0,
@@ -156,24 +179,24 @@ fn cube_rows() {
         0, 1, 3, 7, 0, 1, 5, 7, 0, 2, 3, 7, 0, 2, 6, 7, 0, 4, 5, 7, 0, 4, 6, 7,
     ];
     let mut cube = [0u8; 202];
-    built(b"The cube", &coordinates, &corners, &mut cube);
+    built(rt, b"The cube", &coordinates, &corners, &mut cube)?;
     let select_0 = b"TMS\x01\0\x07\0\0\0\0\0\x01\0\0\0";
     let mut out = [0u8; 416];
-    refined(b"Select one", &cube, select_0, &mut out);
+    refined(rt, b"Select one", &cube, select_0, &mut out)
 }
 
 // A piece whose first vertex has that coordinate.
-fn coordinate_row(row: &[u8], x: i16) {
+fn coordinate_row(rt: &impl Print, row: &[u8], x: i16) -> io::Result<()> {
     let coordinates: [i16; 12] = [x, 0, 0, 64, 0, 0, 64, 64, 0, 64, 64, 64];
     let corners: [u16; 4] = [0, 1, 2, 3];
     let mut out = [0u8; 77];
-    built(row, &coordinates, &corners, &mut out);
+    built(rt, row, &coordinates, &corners, &mut out)
 }
 
-fn main() {
-    k_rows();
-    cube_rows();
-    coordinate_row(b"Base coordinate 32,736", 32736);
-    coordinate_row(b"Base coordinate 16", 16);
-    coordinate_row(b"Base coordinate -32,768", -32768);
+fn main(rt: HostRuntime) -> io::Result<()> {
+    k_rows(&rt)?;
+    cube_rows(&rt)?;
+    coordinate_row(&rt, b"Base coordinate 32,736", 32736)?;
+    coordinate_row(&rt, b"Base coordinate 16", 16)?;
+    coordinate_row(&rt, b"Base coordinate -32,768", -32768)
 }

@@ -1,4 +1,4 @@
-// The services as C functions: each is one call of a service, and nothing is decided here.
+// The services under the names that C has for them: each is one call of a service, and nothing is decided here. `station_c` exports them.
 #![tactic(auto)]
 
 ghost use Rattle.std.specs.Prelude.{length};

@@ -16,17 +16,11 @@ use Rattle.check_children.proofs.any_bad_record.Goals as goal
 pub loop-n-init : goal.loop-n-init
 loop-n-init c = (omega arith, any_none _, sym (counts_none _ _))
 
-pub shape_of-midpoints-then-bad_record : goal.shape_of-midpoints-then-bad_record
-shape_of-midpoints-then-bad_record c = ap length (counts_next _ _ _ _ _ c.loop-n.invariant.2 c.bad_record.ensures.midpoints_after) ∙ counts_long _ (midpoint_marking _).long _ _
-
 pub returns-then-bad_record : goal.returns-then-bad_record
 returns-then-bad_record c = record { value = sym (any_is _ _ _ c.loop-n-test.true (sym c.bad_record.ensures.value ∙ c.if-bad_record.true)); midpoints_after = λ e. absurd (true≢false e) }
 
 pub loop-n-preserved : goal.loop-n-preserved
 loop-n-preserved c = (omega arith, any_next _ _ c.loop-n.invariant.1 (sym c.bad_record.ensures.value ∙ c.if-bad_record.false), counts_next _ _ _ _ _ c.loop-n.invariant.2 c.bad_record.ensures.midpoints_after)
-
-pub shape_of-midpoints : goal.shape_of-midpoints
-shape_of-midpoints c = ap length c.loop-n.invariant.2 ∙ counts_long _ (midpoint_marking _).long _ _
 
 pub returns : goal.returns
 returns c = record { value = sym (any_end _ _ _ c.loop-n-test.false c.loop-n.invariant.0 c.loop-n.invariant.1); midpoints_after = λ e. counts_end _ _ _ _ _ c.loop-n-test.false c.loop-n.invariant.0 c.loop-n.invariant.2 }

@@ -16,8 +16,5 @@ loop-n-init c = (omega arith, sym (counts_none _ _))
 pub loop-n-preserved : goal.loop-n-preserved
 loop-n-preserved c = (omega arith, counts_next _ _ _ _ _ c.loop-n.invariant.1 c.count_children.ensures)
 
-pub shape_of-children : goal.shape_of-children
-shape_of-children c = ap length c.loop-n.invariant.1 ∙ counts_long _ (children_counting _).long _ _
-
 pub returns : goal.returns
 returns c = counts_end _ _ _ _ _ c.loop-n-test.false c.loop-n.invariant.0 c.loop-n.invariant.1

@@ -29,14 +29,8 @@ bad_record-requires c =
       fits = omega (arith, c.loop-n-test.true, room.fits);
     }
 
-pub shape_of-heads-then-bad_record : goal.shape_of-heads-then-bad_record
-shape_of-heads-then-bad_record c = c.bad_record.auto.1.1.1.0 ∙ c.loop-n.invariant.2
-
-pub shape_of-nexts-then-bad_record : goal.shape_of-nexts-then-bad_record
-shape_of-nexts-then-bad_record c = c.bad_record.auto.1.1.1.1.0 ∙ c.loop-n.invariant.3
-
 pub returns-then-bad_record : goal.returns-then-bad_record
-returns-then-bad_record c =
+returns-then-bad_record c empty =
     let record_at : ℕ → Record = record_in c.args.l c.args.base.now c.args.grown.now in
     let at = c.loop-n in
     let is = linked_is record_at _ _ c.requires.keys at.n (links_of at.heads at.nexts) (at.invariant.1 empty).1 in
@@ -53,17 +47,11 @@ loop-n-preserved c =
           let (none, on) = at.invariant.1 empty in
           let here = linked_is record_at _ _ c.requires.keys at.n links on in
           (any_next (bad_faces record_at) at.n none (sym here ∙ sym turn.ensures.value ∙ c.if-bad_record.false), rw turn.ensures.nexts_after (record_pushed record_at _ _ links at.n on (omega (arith, c.loop-n-test.true, c.requires.places)) (omega (arith, c.loop-n-test.true, c.requires.fits)))),
-      turn.auto.1.1.1.0 ∙ at.invariant.2,
-      turn.auto.1.1.1.1.0 ∙ at.invariant.3,
+      turn.auto.heads ∙ at.invariant.2,
+      turn.auto.nexts ∙ at.invariant.3,
     )
 
-pub shape_of-heads : goal.shape_of-heads
-shape_of-heads c = c.loop-n.invariant.2
-
-pub shape_of-nexts : goal.shape_of-nexts
-shape_of-nexts c = c.loop-n.invariant.3
-
 pub returns : goal.returns
-returns c =
+returns c empty =
     let record_at : ℕ → Record = record_in c.args.l c.args.base.now c.args.grown.now in
     let at = c.loop-n in sym (any_end (bad_faces record_at) c.args.count at.n c.loop-n-test.false at.invariant.0 (at.invariant.1 empty).0)

@@ -6,25 +6,25 @@ use Rattle.check_faces.specs.Linked.{four_pushed}
 use Rattle.check_faces.proofs.push_faces.Goals as goal
 
 pub put-requires : goal.put-requires
-put-requires c = (c.requires.keys_within 0 (omega arith), (omega (arith, c.requires.n_in_bounds.0), omega (arith, c.requires.n_in_bounds.1)))
+put-requires c = record { k_in_bounds = c.requires.keys_within 0 (omega arith); f_in_bounds = omega (arith, c.requires.n_in_bounds); f_lt_greatest = omega (arith, c.requires.n_bound) }
 
 pub put-requires-2 : goal.put-requires-2
 put-requires-2 c =
     let kept = c.put.auto in
-    (rw kept.0 (c.requires.keys_within 1 (omega arith)), (rw kept.1.0 (omega (arith, c.requires.n_in_bounds.0)), omega (arith, c.requires.n_in_bounds.1)))
+    record { k_in_bounds = rw kept.heads (c.requires.keys_within 1 (omega arith)); f_in_bounds = rw kept.nexts (omega (arith, c.requires.n_in_bounds)); f_lt_greatest = omega (arith, c.requires.n_bound) }
 
 pub put-requires-3 : goal.put-requires-3
 put-requires-3 c =
     let kept = c.put.auto in
     let kept2 = c.put-2.auto in
-    (rw (kept2.0, kept.0) (c.requires.keys_within 2 (omega arith)), (rw (kept2.1.0, kept.1.0) (omega (arith, c.requires.n_in_bounds.0)), omega (arith, c.requires.n_in_bounds.1)))
+    record { k_in_bounds = rw (kept2.heads, kept.heads) (c.requires.keys_within 2 (omega arith)); f_in_bounds = rw (kept2.nexts, kept.nexts) (omega (arith, c.requires.n_in_bounds)); f_lt_greatest = omega (arith, c.requires.n_bound) }
 
 pub put-requires-4 : goal.put-requires-4
 put-requires-4 c =
     let kept = c.put.auto in
     let kept2 = c.put-2.auto in
     let kept3 = c.put-3.auto in
-    (rw (kept3.0, kept2.0, kept.0) (c.requires.keys_within 3 (omega arith)), (rw (kept3.1.0, kept2.1.0, kept.1.0) (omega (arith, c.requires.n_in_bounds.0)), omega (arith, c.requires.n_in_bounds.1)))
+    record { k_in_bounds = rw (kept3.heads, kept2.heads, kept.heads) (c.requires.keys_within 3 (omega arith)); f_in_bounds = rw (kept3.nexts, kept2.nexts, kept.nexts) (omega (arith, c.requires.n_in_bounds)); f_lt_greatest = omega (arith, c.requires.n_bound) }
 
 pub returns : goal.returns
 returns c =

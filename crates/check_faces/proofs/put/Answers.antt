@@ -12,4 +12,4 @@ pub returns : goal.returns
 returns c =
     let a = c.args in
     ap (λ (t : ℕ). links_of (set a.heads.now a.k t) (set a.nexts.now a.f (get_or a.heads.now a.k 0))) (add-one a.f)
-    ∙ sym (pushed_there (links_of a.heads.now a.nexts.now) a.k a.f c.requires.k_in_bounds c.requires.f_in_bounds.0 c.requires.f_in_bounds.1)
+    ∙ sym (pushed_there (links_of a.heads.now a.nexts.now) a.k a.f c.requires.k_in_bounds c.requires.f_in_bounds c.requires.f_lt_greatest)

@@ -20,7 +20,7 @@ loop-n-preserved c =
     let a = c.args in
     let before = c.loop-n in (
       omega arith,
-      c.wrapping_add_u64-total.ensures
+      c.wrapping_add_u64-total.ensures.value
           ∙ ap (λ (x : ℕ). (before.total + x) % 2 ^ 64) c.leaf_sixfold.ensures
           ∙ wraps_next (volume_at a.l a.base.now a.grown.now) (2 ^ 64) before.n before.total before.invariant.1,
     )

@@ -20,7 +20,7 @@ pub loop-n-init : goal.loop-n-init
 loop-n-init c = let a = c.args in (omega arith, λ some chain. any_none (hang (vertex_in a.l a.base.now a.grown.now) (record_in a.l a.base.now a.grown.now) a.vertices))
 
 pub returns-then-record_hangs : goal.returns-then-record_hangs
-returns-then-record_hangs c =
+returns-then-record_hangs c some chain =
     let a = c.args in
     sym (any_is (hang (vertex_in a.l a.base.now a.grown.now) (record_in a.l a.base.now a.grown.now) a.vertices) a.records c.loop-n.n c.loop-n-test.true (sym (c.record_hangs.ensures some chain) ∙ c.if-record_hangs.true))
 
@@ -33,6 +33,6 @@ loop-n-preserved c =
     )
 
 pub returns : goal.returns
-returns c =
+returns c some chain =
     let a = c.args in
     sym (any_end (hang (vertex_in a.l a.base.now a.grown.now) (record_in a.l a.base.now a.grown.now) a.vertices) a.records c.loop-n.n c.loop-n-test.false c.loop-n.invariant.0 (c.loop-n.invariant.1 some chain))

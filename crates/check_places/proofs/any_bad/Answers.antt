@@ -18,7 +18,7 @@ loop-v-init c = (omega arith, λ empty. (any_none _, none_kept _ _ _ c.requires.
 
 pub returns-then-bad_vertex : goal.returns-then-bad_vertex
 unfolding bad_vertices
-returns-then-bad_vertex c =
+returns-then-bad_vertex c empty =
     let at = c.loop-v in
     sym (any_is (bad_vertex _) _ at.v c.loop-v-test.true (sym (c.bad_vertex.ensures (at.invariant.1 empty).1) ∙ c.if-bad_vertex.true))
 
@@ -35,22 +35,10 @@ loop-v-preserved c =
             any_next _ _ none (sym (last.ensures kept) ∙ c.if-bad_vertex.false),
             vertex_kept _ at.v _ _ _ _ kept (omega (arith, below, lent.places, at.invariant.3)) (omega (arith, below, lent.fits)) turn.ensures.heads_after turn.ensures.nexts_after,
           ),
-      turn.auto.1.1.1.1.0 ∙ at.invariant.2,
-      turn.auto.1.1.1.1.1.0 ∙ at.invariant.3,
+      turn.auto.heads ∙ at.invariant.2,
+      turn.auto.nexts ∙ at.invariant.3,
     )
-
-pub shape_of-heads-then-bad_vertex : goal.shape_of-heads-then-bad_vertex
-shape_of-heads-then-bad_vertex c = c.loop-v.invariant.2
-
-pub shape_of-nexts-then-bad_vertex : goal.shape_of-nexts-then-bad_vertex
-shape_of-nexts-then-bad_vertex c = c.loop-v.invariant.3
-
-pub shape_of-heads : goal.shape_of-heads
-shape_of-heads c = c.loop-v.invariant.2
-
-pub shape_of-nexts : goal.shape_of-nexts
-shape_of-nexts c = c.loop-v.invariant.3
 
 pub returns : goal.returns
 unfolding bad_vertices
-returns c = sym (any_end (bad_vertex _) _ c.loop-v.v c.loop-v-test.false c.loop-v.invariant.0 (c.loop-v.invariant.1 empty).0)
+returns c empty = sym (any_end (bad_vertex _) _ c.loop-v.v c.loop-v-test.false c.loop-v.invariant.0 (c.loop-v.invariant.1 empty).0)

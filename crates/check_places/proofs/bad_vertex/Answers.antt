@@ -8,18 +8,18 @@ use Rattle.check_places.proofs.bad_vertex.Goals as goal
 
 pub returns-then-bad_base_vertex : goal.returns-then-bad_base_vertex
 unfolding bad_vertex
-returns-then-bad_base_vertex c = rw (lt-ltb _ _ c.if-v-h.true, ← c.vertex_in-vertex.ensures, ← c.bad_base_vertex.ensures, c.if-bad_base_vertex.true)
+returns-then-bad_base_vertex c kept = rw (lt-ltb _ _ c.if-v-h.true, ← c.vertex_in-vertex.ensures, ← c.bad_base_vertex.ensures, c.if-bad_base_vertex.true)
 
 pub returns-then-v-h : goal.returns-then-v-h
 unfolding bad_vertex
-returns-then-v-h c =
+returns-then-v-h c kept =
     rw (lt-ltb _ _ c.if-v-h.true, ← c.vertex_in-vertex.ensures, ← c.bad_base_vertex.ensures, c.if-bad_base_vertex.false)
     (rw (c.place_along.ensures, c.vertex_in-vertex.ensures) (place_twice_lem _ _ _ _ kept c.if-v-h.true))
 
 pub returns-then-bad_made_vertex : goal.returns-then-bad_made_vertex
 unfolding bad_vertex
-returns-then-bad_made_vertex c = rw (le-ltb _ _ c.if-v-h.false, ← c.bad_made_vertex.ensures, c.if-bad_made_vertex.true)
+returns-then-bad_made_vertex c kept = rw (le-ltb _ _ c.if-v-h.false, ← c.bad_made_vertex.ensures, c.if-bad_made_vertex.true)
 
 pub returns : goal.returns
 unfolding bad_vertex
-returns c = rw (le-ltb _ _ c.if-v-h.false, ← c.bad_made_vertex.ensures, c.if-bad_made_vertex.false) (c.pair_twice.ensures kept)
+returns c kept = rw (le-ltb _ _ c.if-v-h.false, ← c.bad_made_vertex.ensures, c.if-bad_made_vertex.false) (c.pair_twice.ensures kept)

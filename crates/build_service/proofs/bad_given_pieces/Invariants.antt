@@ -1,0 +1,22 @@
+-- `build_service::bad_given_pieces` has found no bad piece before n.
+-- Assumes nothing.
+use Prim.Native.Nat.{ℕ, ◌≤◌, ◌-◌}
+use mathlib.Core.Path.{◌≡◌, sym, ◌∙◌}
+use mathlib.Core.Bool.{Bool, false}
+use mathlib.Core.List.{List}
+use native.Mathlib.Omega.{arith}
+use lib.IntN.{ℤ}
+use Rattle.laws.specs.Below.{any_below, any_none, any_next, any_is, any_end}
+use Rattle.check_refusals.specs.Refusals.{bad_piece}
+use Rattle.build_marks.specs.Marking.{plain_vertex, plain_piece}
+use Rattle.build_service.proofs.bad_given_pieces.Given as goal
+
+-- Piece n is bad.
+abbrev pub bad : List ℤ → List ℕ → ℕ → ℕ → Bool
+bad coordinates corners vertices n = bad_piece vertices (plain_vertex coordinates) (plain_piece corners n)
+
+abbrev pub invariant-loop-n : goal.invariant-loop-n
+invariant-loop-n l = (l.n ≤ l.records) × (any_below l.n (bad l.coordinates l.corners l.vertices) ≡ false)
+
+abbrev pub decreases-loop-n : goal.decreases-loop-n
+decreases-loop-n l = l.records - l.n

@@ -1,0 +1,11 @@
+-- `list_service::too_short`: 20 where there is no other number.
+-- Assumes nothing.
+use Rattle.std.proofs.Common.{rules}
+use borrow.Author.Tests.{eq-eqb, ne_eqb}
+use Rattle.list_service.proofs.too_short.Goals as goal
+
+pub returns-then-number-eq0 : goal.returns-then-number-eq0
+returns-then-number-eq0 c = rw (eq-eqb c.args.number 0 c.if-number-eq0.true)
+
+pub returns-else-number-eq0 : goal.returns-else-number-eq0
+returns-else-number-eq0 c = rw (ne_eqb c.args.number 0 c.if-number-eq0.false)

@@ -1,0 +1,17 @@
+-- `refine_pass::choose_hanging` has chosen, of the records before n, those that hang.
+-- Assumes nothing.
+use Prim.Native.Nat.{◌≤◌, ◌-◌}
+use mathlib.Core.Path.{◌≡◌, refl, ◌∙◌}
+use native.Mathlib.Nat.{le_refl}
+use native.Mathlib.Omega.{arith}
+use lib.ListN.{length, length-set}
+use Rattle.mesh_tables.specs.Tables.{tables, all_vertices, leaf_hangs}
+use Rattle.mesh_hanging.specs.Hanging.{leaf_hangs_along_lem}
+use Rattle.refine_pass.specs.Chosen.{Chosen, chosen_none, chosen_next, chosen_all}
+use Rattle.refine_pass.proofs.choose_hanging.Given as goal
+
+abbrev pub invariant-loop-n : goal.invariant-loop-n
+invariant-loop-n l = (l.n ≤ l.records) × Chosen (leaf_hangs (tables l.h l.l l.base l.grown)) l.n l.chosen l.some × (length l.chosen ≡ length l.initial.chosen)
+
+abbrev pub decreases-loop-n : goal.decreases-loop-n
+decreases-loop-n l = l.records - l.n

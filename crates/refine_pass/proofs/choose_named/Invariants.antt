@@ -1,0 +1,16 @@
+-- `refine_pass::choose_named` has counted the numbers before i in a table that was cleared.
+-- Assumes nothing.
+use Prim.Native.Nat.{◌≤◌, ◌-◌}
+use mathlib.Core.Path.{◌≡◌, sym, ◌∙◌, ap}
+use native.Mathlib.Omega.{arith}
+use lib.ListN.{length}
+use Rattle.laws.specs.Links.{counted_at}
+use Rattle.laws.specs.Counts.{counts_below, counts_none, counts_next, counts_end, counts_long, key_marking}
+use Rattle.stored.specs.Layout.{selection_in, named_in}
+use Rattle.refine_pass.proofs.choose_named.Given as goal
+
+abbrev pub invariant-loop-i : goal.invariant-loop-i
+invariant-loop-i l = (l.i ≤ l.count) × (l.chosen ≡ counts_below (λ t j. counted_at t (named_in (selection_in l.format l.selection) j)) l.initial.chosen l.i)
+
+abbrev pub decreases-loop-i : goal.decreases-loop-i
+decreases-loop-i l = l.count - l.i

@@ -1,0 +1,20 @@
+-- `refine_pass::close`: what is left to close is the same after each pass, and the links are those of the vertices then.
+-- Assumes nothing.
+use mathlib.Core.Path.{◌≡◌, refl, sym, ◌∙◌}
+use native.Mathlib.Omega.{arith}
+use lib.ListN.{length}
+use borrow.Author.Tests.{not-true, not-false}
+use Rattle.laws.specs.Counts.{marked}
+use Rattle.mesh_tables.specs.Tables.{leaf_hangs, hanging_edge}
+use Rattle.refine_cut.specs.Slices.{slices, tables_in}
+use Rattle.refine_pass.specs.Puts.{closing_put}
+use Rattle.refine_pass.specs.Steps.{pass_same, closing_exceeds, closing_none, closing_next, closing_out}
+use Rattle.refine_pass.specs.Law.{within}
+use Rattle.refine_pass.specs.Linked.{AtWork}
+use Rattle.refine_pass.proofs.close.Given as goal
+
+abbrev pub invariant-loop-left : goal.invariant-loop-left
+invariant-loop-left l = (closing_put l.most l.l l.left (slices l.with l.base l.grown) ≡ closing_put l.most l.l l.initial.left (slices l.initial.with l.initial.base l.initial.grown)) × AtWork l.most l.l (slices l.with l.base l.grown) l.heads l.nexts × (length l.base ≡ length l.initial.base) × (length l.grown ≡ length l.initial.grown) × (length l.heads ≡ length l.initial.heads) × (length l.nexts ≡ length l.initial.nexts) × (length l.chosen ≡ length l.initial.chosen)
+
+abbrev pub decreases-loop-left : goal.decreases-loop-left
+decreases-loop-left l = l.left

@@ -1,0 +1,14 @@
+-- `takeback_closed::put_record`: each way out is one case of the definition, at what the calls return.
+-- Assumes nothing.
+use Rattle.std.proofs.Common.{rules}
+use borrow.Author.Tests.{eq-eqb, ne_eqb}
+use Rattle.takeback_closed.specs.Closed.{entry_put}
+use Rattle.takeback_closed.proofs.put_record.Goals as goal
+
+pub returns-then-k : goal.returns-then-k
+unfolding entry_put
+returns-then-k c = rw (← c.new_number-k.ensures, eq-eqb _ _ c.if-k.true)
+
+pub returns : goal.returns
+unfolding entry_put
+returns c = rw (c.append_record.ensures, c.record_again-record.ensures, ← c.new_number-k.ensures, ne_eqb _ _ c.if-k.false)

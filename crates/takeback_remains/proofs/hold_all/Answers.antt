@@ -1,0 +1,20 @@
+-- `takeback_remains::hold_all`: the records before n have counted.
+-- Assumes nothing.
+use Rattle.std.proofs.Common.{rules}
+use Prim.Native.Nat.{◌≤◌, ◌-◌}
+use mathlib.Core.Path.{◌≡◌, sym, ◌∙◌, ap}
+use native.Mathlib.Omega.{arith}
+use lib.ListN.{length}
+use Rattle.laws.specs.Counts.{counts_below, counts_none, counts_next, counts_end, counts_long, marked}
+use Rattle.mesh_tables.specs.Tables.{tables}
+use Rattle.takeback_remains.specs.Held.{held_counted, held_marking}
+use Rattle.takeback_remains.proofs.hold_all.Goals as goal
+
+pub loop-n-init : goal.loop-n-init
+loop-n-init c = (omega arith, sym (counts_none _ _))
+
+pub loop-n-preserved : goal.loop-n-preserved
+loop-n-preserved c = (omega arith, counts_next _ _ _ _ _ c.loop-n.invariant.1 c.hold.ensures)
+
+pub returns : goal.returns
+returns c = counts_end _ _ _ _ _ c.loop-n-test.false c.loop-n.invariant.0 c.loop-n.invariant.1
