@@ -6,7 +6,7 @@ use Rattle.std.proofs.Math.Bool.{not}
 use Rattle.std.proofs.Math.ListN.{length}
 use borrow.Author.Tests.{ltb-false}
 use Rattle.laws.specs.Below.{or_left_false, or_right_false, count_below, count_none, count_suc, greatest_below, greatest_none, greatest_suc}
-use Rattle.laws.specs.Order.{none_broken_lem}
+use Rattle.laws.proofs.Order.{none_broken_lem}
 use Rattle.piece.specs.declared.Piece.{Piece}
 use Rattle.piece.specs.Shape.{shape_of, Valid}
 use Rattle.stored.specs.declared.Header.{Header}
@@ -15,15 +15,15 @@ use Rattle.stored.specs.Layout.{none, limits, kind1, right1, right_length, right
 use Rattle.stored.specs.Meshes.{MeshFits, mesh_right_length, mesh_right_mark}
 use Rattle.mesh_tables.specs.Tables.{Tables, tables_of, base_vertices, all_vertices, base_records, all_records, piece_at, is_leaf}
 use Rattle.check_refusals.specs.Refusals.{wrong_length, wrong_mark, wrong_counts, bad_vertices, bad_base_faces, unused_vertices, hanging_vertices}
-use Rattle.check_refusals.specs.Check.{check_number, leaves, leaf_generation, deepest, sixfold, report_of, check_of}
+use Rattle.check_refusals.specs.Check.{check_number, leaves, leaf_generation, deepest}
 use Rattle.check_meaning.specs.Tests.{equal}
 use Rattle.check_meaning.specs.Accepted.{Within, RightCounts, RightBaseRecords, RightHanded, RightBaseMarks, RightCuts, Accepted, Made, Leaf}
 use Rattle.check_meaning.specs.Heading.{rule1_holds, rule2_holds, rule3_holds}
 use Rattle.check_meaning.specs.Vertices.{rule4_holds}
-use Rattle.check_meaning.specs.Bases.{valid_marks}
+use Rattle.check_meaning.proofs.Bases.{valid_marks}
 use Rattle.check_meaning.specs.Faces.{rule7_holds, rule8_holds}
 use Rattle.check_meaning.specs.Inside.{rule23_holds}
-use Rattle.check_meaning.specs.Exactly.{accepts_exactly}
+use Rattle.check_meaning.proofs.Exactly.{accepts_exactly}
 use Rattle.build_marks.specs.Marking.{plain_piece, righted_piece, marked_piece, plain_record}
 use Rattle.build_service.specs.Build.{not_whole, plain_header, plain_mesh, plain_bytes, bad_given_pieces, build_rows, build_number}
 use Rattle.build_meaning.specs.Edges.{Different}
@@ -193,8 +193,3 @@ module _ (job : ℕ) (coordinates : List ℤ) (corners : List ℕ) where
     build_depth =
         greatest_zero (λ n. leaf_generation (m.record_at n)) (all_records m)
         (λ n l. rw ((equal (m.record_at n).first_child none).1 (all_leaves n l)) (right_records n (omega (arith, same_counts.1))).generation)
-
-    -- What check returns of it, all six figures.
-    pub check_reports : check_of (stored1 (plain_bytes job coordinates corners)) ≡ record { number = 0; leaves = length corners / 4; deepest = 0; sixfold = sixfold (written job coordinates corners); «record» = 0; edge = 0 }
-    unfolding check_of report_of
-    check_reports = rw (check_accepts, build_leaves, build_depth)

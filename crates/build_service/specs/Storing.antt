@@ -9,7 +9,8 @@ use Rattle.std.proofs.Math.Seq.{sets, length-sets}
 use Rattle.std.proofs.lemmas.List.Edits.{sets-eq}
 use borrow.Author.Tests.{ne_eqb, lt-ltb, le-ltb}
 use Rattle.laws.specs.Below.{any_below, list_below, list_none, list_suc, list_length}
-use Rattle.laws.specs.Order.{Row, row, first_broken, one_after_other}
+use Rattle.laws.specs.Order.{Row, row, first_broken}
+use Rattle.laws.proofs.Order.{one_after_other}
 use Rattle.laws.specs.Lists.{joined, joined_append, joined_length, sets_append, clear_with, output_of}
 use Rattle.stored.specs.declared.Layout.{Layout}
 use Rattle.stored.specs.declared.Header.{Header}

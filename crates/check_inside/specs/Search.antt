@@ -16,7 +16,7 @@ use Rattle.grid.specs.declared.Place.{Place}
 use Rattle.grid.specs.Places.{Point, point_of}
 use Rattle.grid_volume.specs.Volume.{differences_of, signed_of, left_handed}
 use Rattle.grid_inside.specs.Inside.{lies_in}
-use Rattle.grid_inside.specs.Box.{box_x, box_y, box_z}
+use Rattle.grid_inside.proofs.Box.{box_x, box_y, box_z}
 use Rattle.stored.specs.declared.Vertex.{Vertex}
 use Rattle.check_inside.specs.declared.Slabs.{Slabs}
 use Rattle.check_inside.specs.declared.Asking.{Asking}

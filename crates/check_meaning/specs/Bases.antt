@@ -1,22 +1,21 @@
 -- Rules 5, 22 and 6: the base records.
-use Rattle.std.specs.Prelude.{◌≡◌, refl, true, ◌≢◌, ◌⊎◌, ℕ, ◌<◌, length, pos, ◌<ℤ◌}
+use Rattle.std.specs.Prelude.{◌≡◌, refl, true, ◌≢◌, ◌⊎◌, ℕ, ◌<◌, pos, ◌<ℤ◌}
 use Rattle.std.proofs.Math.Path.{sym, ap}
 use Rattle.std.proofs.Common.{◌∙◌}
 use Rattle.std.proofs.Math.Logic.{⊎_elim}
 use Rattle.std.proofs.Math.Logic.Iff
-use native.Mathlib.Omega.{arith}
 use Rattle.laws.specs.Below.{any_below, all_below}
 use Rattle.piece.specs.declared.Piece.{Piece}
-use Rattle.piece_edges.specs.Edges.{low_slot, high_slot, slots_small, has_slot, on_face}
-use Rattle.piece.specs.Shape.{Shape, shape_of, mark, mark_fits, flag_fits, valid_shape, Valid}
+use Rattle.piece_edges.specs.Edges.{low_slot, high_slot, slots_small}
+use Rattle.piece.specs.Shape.{Shape, mark, mark_fits, flag_fits, valid_shape}
 use Rattle.piece.specs.Ends.{corner_at}
 use Rattle.stored.specs.declared.Vertex.{Vertex}
 use Rattle.grid_volume.specs.Volume.{signed_of, left_handed, sixfold_of}
 use Rattle.grid_volume.specs.Handed.{not_negative, positive}
 use Rattle.mesh_tables.specs.Tables.{Tables, base_vertices, base_records, piece_at, corner_point, signed_at, sixfold_at}
-use Rattle.check_refusals.specs.Refusals.{equal_corners, corner_not_in_base, bad_corners, bad_piece, bad_base_record, bad_base_records, left_handed_record, left_handed_records, bad_marks, bad_base_marks}
-use Rattle.check_meaning.specs.Tests.{Passes, Fails, reads, equal, below, not_below, not_at_most, not_fails, not_passes, fails_unless, and_passes, implies_passes, or_passes, or_fails, all_pass, any_passes, none_passes}
-use Rattle.check_meaning.specs.Accepted.{BasePiece, RightBaseRecords, RightHanded, EdgeOf, RightMarks, RightBaseMarks}
+use Rattle.check_refusals.specs.Refusals.{equal_corners, corner_not_in_base, bad_corners, bad_piece, bad_base_record, bad_base_records, left_handed_record, left_handed_records}
+use Rattle.check_meaning.specs.Tests.{Passes, Fails, reads, equal, below, not_at_most, not_fails, fails_unless, and_passes, or_passes, or_fails, all_pass, any_passes, none_passes}
+use Rattle.check_meaning.specs.Accepted.{BasePiece, RightBaseRecords, RightHanded}
 
 -- Every two slots are the ends of an edge, one way round or the other; the ends of an edge are two.
 pub slots_joined : (j : ℕ) → j < 4 → (k : ℕ) → k < 4 → (j ≡ k) ⊎ ((e : ℕ) × (e < 6) × (((low_slot e ≡ j) × (high_slot e ≡ k)) ⊎ ((low_slot e ≡ k) × (high_slot e ≡ j))))
@@ -28,18 +27,6 @@ slots_joined =
 pub slots_apart : (e : ℕ) → e < 6 → low_slot e ≢ high_slot e
 unfolding low_slot high_slot any_below
 slots_apart = (none_passes 6 (λ e l. fails_unless (equal (low_slot e) (high_slot e)))).0 refl
-
--- An edge of face i, and a mark that fits it.
-edge_of : (e i : ℕ) → Passes (on_face e i) (EdgeOf i e)
-unfolding on_face has_slot
-edge_of e i =
-    reads (and_passes (below e 6) (not_passes (or_fails (fails_unless (equal (low_slot e) i)) (fails_unless (equal (high_slot e) i)))))
-    (λ h. record { code = h.0; low = h.1.0; high = h.1.1 })
-    (λ r. (r.code, (r.low, r.high)))
-
-mark_fits_lem : (edge m i : ℕ) → Passes (mark_fits edge m i) (EdgeOf i m × (EdgeOf i edge → m ≡ edge))
-unfolding mark_fits
-mark_fits_lem edge m i = and_passes (edge_of m i) (implies_passes (edge_of edge i) (equal m edge))
 
 -- What a valid shape has, part by part.
 pub valid_is : (s : Shape) → Passes (valid_shape s) ((s.edge < 6) × (((i : ℕ) → i < 4 → mark_fits s.edge (mark s i) i ≡ true) × (flag_fits s ≡ true)))
@@ -61,29 +48,6 @@ module _ (p : Piece) where
       ends))
       (slots_joined j lj k lk))
       (λ d e l same. slots_apart e l (d (low_slot e) (high_slot e) (slots_small e).0 (slots_small e).1 same))
-
-  -- Rule 6 asks for the marks that the document does.
-  right_marks : Fails (bad_marks p) (RightMarks p)
-  unfolding bad_marks
-  right_marks =
-      reads (or_fails (not_below 5 p.edge) (none_passes 4 λ i l. not_fails (mark_fits_lem p.edge (mark (shape_of p) i) i)))
-      (λ h. record { edge = omega arith; marks = λ i l. (h.1 i l).0; refinement_faces = λ i l. (h.1 i l).1 })
-      (λ r. let code = r.edge in (omega arith, λ i l. (r.marks i l, r.refinement_faces i l)))
-
-  -- So a piece whose flag is unset has right marks exactly where its shape is valid: an unset flag fits every type.
-  pub marks_valid : p.flag ≡ 0 → length p.marks ≡ 4 → RightMarks p → Valid (shape_of p)
-  unfolding flag_fits
-  marks_valid unset four r =
-      record {
-        four = four;
-        valid = (valid_is (shape_of p)).1 (r.edge, (λ i l. (mark_fits_lem p.edge (mark (shape_of p) i) i).1 (r.marks i l, r.refinement_faces i l), rw ((equal p.flag 0).1 unset)));
-      }
-
-  pub valid_marks : Valid (shape_of p) → RightMarks p
-  valid_marks v =
-      let (edge, (marks, flag)) = (valid_is (shape_of p)).0 v.valid in
-      let fits : (i : ℕ) → i < 4 → EdgeOf i (mark (shape_of p) i) × (EdgeOf i p.edge → mark (shape_of p) i ≡ p.edge) = λ i l. (mark_fits_lem p.edge (mark (shape_of p) i) i).0 (marks i l) in
-      record { edge = edge; marks = λ i l. (fits i l).0; refinement_faces = λ i l. (fits i l).1 }
 
 -- Rule 5 for a piece, whosever it is.
 pub base_piece_lem : (count : ℕ) (vertex_at : ℕ → Vertex) (p : Piece) → Fails (bad_piece count vertex_at p) (BasePiece count vertex_at p)
@@ -115,7 +79,3 @@ module _ (m : Tables) where
   base_right_handed solid handed n l =
       let z = signed_at m.vertex_at (piece_at m n) in
       positive z (solid n l).volume ((not_negative z).1 (handed n l))
-
-  pub rule6_holds : Fails (bad_base_marks m) (RightBaseMarks m)
-  unfolding bad_base_marks
-  rule6_holds = none_passes (base_records m) (λ n l. right_marks (piece_at m n))

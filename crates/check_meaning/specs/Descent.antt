@@ -1,6 +1,6 @@
 -- What accepted tables have in every record, from the base down: a valid shape, corners that are there, and its generation.
-use Rattle.std.specs.Prelude.{◌≡◌, Bool, true, false, cond, ◌⊎◌, ℕ, zero, suc, ◌+◌, ◌≤◌, ◌<◌, eqb, ltb}
-use Rattle.std.proofs.Common.{sym, ◌∙◌, subst, inl, inr, le_refl, not-suc-le-zero, arith, get_or-set_same, get_or-set_other, ltb-true, ltb-false, eqb-true}
+use Rattle.std.specs.Prelude.{◌≡◌, Bool, true, false, cond, ◌⊎◌, ℕ, ◌+◌, ◌<◌, eqb, ltb}
+use Rattle.std.proofs.Common.{inl, inr, arith, get_or-set_same, get_or-set_other, eqb-true}
 use Rattle.std.proofs.Math.Path.{ap}
 use Rattle.std.proofs.Math.Logic.{⊎_elim}
 use Rattle.std.proofs.lemmas.Bool.{eqb-false}
@@ -9,12 +9,12 @@ use Rattle.piece.specs.declared.Piece.{Piece}
 use Rattle.piece_edges.specs.Edges.{low_slot, high_slot, has_slot, slots_small}
 use Rattle.piece.specs.Shape.{shape_of, Valid}
 use Rattle.piece.specs.Ends.{corner_at, lower_end, higher_end}
-use Rattle.piece_cut.specs.Cut.{child_of, cut_of}
-use Rattle.piece_cut.specs.Theorems.{End, child_is_valid}
-use Rattle.mesh_tables.specs.Tables.{Tables, all_vertices, base_records, all_records, piece_at}
+use Rattle.piece_cut.specs.Cut.{child_of}
+use Rattle.piece_cut.specs.Theorems.{End}
+use Rattle.piece_cut.proofs.Theorems.{child_is_valid}
+use Rattle.mesh_tables.specs.Tables.{Tables, all_vertices, all_records, piece_at}
 use Rattle.check_meaning.specs.Tests.{equal, or_passes}
-use Rattle.check_meaning.specs.Accepted.{RightMesh, RightCut, ChildOf, RightCuts}
-use Rattle.check_meaning.specs.Bases.{marks_valid}
+use Rattle.check_meaning.specs.Accepted.{RightMesh, RightCut, ChildOf}
 use Rattle.check_meaning.specs.Cuts.{Four, child_four}
 
 -- ---- one cut
@@ -57,38 +57,6 @@ pub record Descends (m : Tables) (c : ℕ) : Type 0 where
   pub end : End (shape_of (piece_at m parent)) slot
   pub is : piece_at m c ≡ child_of (piece_at m parent) cut.w slot
 
-module _ (m : Tables) where
-  -- A cut record's first child has the new vertex in place of the higher end, its second in place of the lower.
-  pub child_descends : (c n : ℕ) → ChildOf m c n → RightCut m n → Descends m c
-  unfolding cut_of
-  child_descends c n h r =
-      let p = piece_at m n in
-      ⊎_elim
-      (λ e.
-      let (l, t) = higher_is_end p p.edge in
-      record { parent = n; child = h; cut = r; before = omega (arith, r.above); slot = higher_end p p.edge; small = l; end = t; is = ap (piece_at m) (sym e) ∙ r.first })
-      (λ e.
-      let (l, t) = lower_is_end p p.edge in
-      record { parent = n; child = h; cut = r; before = omega (arith, r.above); slot = lower_end p p.edge; small = l; end = t; is = ap (piece_at m) (sym e) ∙ r.second })
-      h.is
-
-  -- Every record beyond the base descends from one before it.
-  pub descends : RightCuts m → (c : ℕ) → base_records m ≤ c → c < all_records m → Descends m c
-  descends r c b l = let o = r.one_parent_lem c b l in child_descends c o.it o.holds (r.cuts o.it o.there o.holds.cut)
-
-  -- What holds of the base, and of each record that descends from one of which it holds, holds of every record.
-  pub by_descent : RightCuts m → (P : ℕ → Type 0) → ((n : ℕ) → n < base_records m → P n) →
-      ((c : ℕ) → c < all_records m → (d : Descends m c) → P d.parent → P c) → (n : ℕ) → n < all_records m → P n
-  by_descent r P base step n l = reach (suc n) n (le_refl (suc n)) l
-    where
-      reach : (b n : ℕ) → n < b → n < all_records m → P n
-      reach zero n h l = absurd (not-suc-le-zero h)
-      reach (suc b) n h l =
-          ⊎_elim
-          (λ t. base n (ltb-true n (base_records m) t))
-          (λ f. let d = descends r n (ltb-false n (base_records m) f) l in step n l d (reach b d.parent (omega (arith, d.before)) (omega (arith, d.before))))
-          (either (ltb n (base_records m)))
-
 -- ---- every record
 
 -- A piece has four corners that are vertices, and its shape is valid.
@@ -113,30 +81,9 @@ child_sound m p w k h there small end =
 
 -- Of the tables of an accepted byte string, `stored_four` says that every record has four corners and four marks.
 module _ (m : Tables) (a : RightMesh m) (four : (n : ℕ) → Four (piece_at m n)) where
-  -- Every record is sound: in the base the rules say so.
-  pub every_sound : (n : ℕ) → n < all_records m → Sound m (piece_at m n)
-  every_sound =
-      by_descent m a.cuts (λ n. Sound m (piece_at m n))
-      (λ n l.
-      record {
-        four = four n;
-        there = λ k small. omega (arith, (a.base_records_lem n l).in_base_lem k small, a.counts.vertices_within);
-        valid = marks_valid (piece_at m n) (a.base_records_lem n l).flag (four n).marks (a.base_marks n l);
-      })
-      (λ c l d h. subst (Sound m) (sym d.is) (child_sound m (piece_at m d.parent) d.cut.w d.slot h d.cut.made.there d.small d.end))
-
   -- "Their generation is the parent's plus 1", for in a byte none up to 15 wraps round. In the base it is 0 by rule 5.
   pub child_generation : (c : ℕ) → c < all_records m → (d : Descends m c) → (piece_at m c).generation ≡ (piece_at m d.parent).generation + 1
   unfolding child_of
   child_generation c l d =
       let at = ap (λ (p : Piece). p.generation) d.is in
       omega (arith, a.cuts.generations d.parent (omega (arith, d.before)))
-
-  -- So no record of the base is a child.
-  pub base_no_child : (c n : ℕ) → c < base_records m → n < all_records m → ChildOf m c n → ⊥
-  base_no_child c n b l h =
-      omega (
-        arith,
-        (a.base_records_lem c b).generation,
-        child_generation c (omega (arith, a.counts.records_within)) (child_descends m c n h (a.cuts.cuts n l h.cut)),
-      )

@@ -1,6 +1,6 @@
 -- Rule 23: base vertices that hang on base records.
 use Rattle.std.specs.Prelude.{ℕ, ◌<◌}
-use Rattle.grid_inside.specs.Weights.{closed_exactly}
+use Rattle.grid_inside.proofs.Weights.{closed_exactly}
 use Rattle.mesh_tables.specs.Tables.{Tables, base_vertices, base_records, piece_at, corner_point, signed_at}
 use Rattle.check_refusals.specs.Refusals.{hangs_on, vertex_hangs, hanging_vertices}
 use Rattle.check_meaning.specs.Tests.{Passes, Fails, reads, not_passes, fails_unless, and_passes, any_passes}

@@ -5,7 +5,8 @@ use Rattle.std.proofs.Common.{◌∙◌, ⊎_elim}
 use Rattle.std.proofs.Math.Bool.{not}
 use borrow.Author.Tests.{not-true}
 use Rattle.laws.specs.Below.{either}
-use Rattle.laws.specs.Order.{first_broken, given_passes, in_turn_lem, one_after_other}
+use Rattle.laws.specs.Order.{first_broken, given_passes, in_turn_lem}
+use Rattle.laws.proofs.Order.{one_after_other}
 use Rattle.stored.specs.Layout.{Stored, header_of, right_length, right_mark}
 use Rattle.check_hanging.specs.Hanging.{found_of, reported, found_reported}
 use Rattle.mesh_tables.specs.Tables.{Tables, tables_of}

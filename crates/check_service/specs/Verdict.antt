@@ -5,16 +5,17 @@ use Rattle.std.proofs.Common.{sym, ◌∙◌, arith, ne_eqb}
 use Rattle.std.proofs.Math.Bool.{true, false, cond}
 use Rattle.std.proofs.Math.Nat.{mul-le-mul_right}
 use Rattle.laws.specs.Below.{sum_at_most}
-use Rattle.laws.specs.Order.{none_broken_lem}
+use Rattle.laws.proofs.Order.{none_broken_lem}
 use Rattle.stored.specs.Layout.{limits, Stored, header_of, layout_in}
 use Rattle.mesh_tables.specs.Tables.{tables_of, base_records, piece_at}
 use Rattle.check_refusals.specs.declared.Report.{Report}
 use Rattle.check_refusals.specs.Bounded.{Bounded, bounded}
 use Rattle.check_refusals.specs.Rows.{report_number}
 use Rattle.check_refusals.specs.Check.{rows, table_rows, check_number, sixfold, refused_with, accepted, hanging_report, report_of, check_of}
-use Rattle.check_meaning.specs.Exactly.{accepts_exactly}
+use Rattle.check_meaning.proofs.Exactly.{accepts_exactly}
 use Rattle.check_meaning.specs.Cuts.{stored_four}
-use Rattle.check_meaning.specs.Volumes.{volume, volume_kept}
+use Rattle.check_meaning.specs.Volumes.{volume}
+use Rattle.check_meaning.proofs.Volumes.{volume_kept}
 use Rattle.check_figures.specs.Bounds.{most, sixfold_at_most}
 
 -- The number, record and edge of a report, and 0 for leaves, deepest and sixfold.

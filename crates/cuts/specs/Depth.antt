@@ -6,7 +6,7 @@ use Rattle.cuts_names.specs.Names.{Name, level}
 use Rattle.cuts_names.specs.Pieces.{Piece, Side, low, Node, kid, generation}
 use Rattle.cuts.specs.Sets.{Cuts, There, Leaf, HangsAt, Hangs}
 use Rattle.cuts_names.specs.Base.{Marked}
-use Rattle.cuts_names.specs.Macro.{node_macro, node_level}
+use Rattle.cuts_names.proofs.Macro.{node_macro, node_level}
 
 -- Every cut has a generation below B.
 abbrev pub CutsBelow : {count : ℕ} → ℕ → Cuts count → Type 0

@@ -7,7 +7,7 @@ use Rattle.cuts_names.specs.Names.{Name, level}
 use Rattle.cuts_names.specs.Pieces.{Piece, Side, child, Node, generation, piece_down, piece_at, piece_root_lem}
 use Rattle.cuts_names.specs.Base.{Different, HasCorner, OnFace, SameCorners, SameFace, marked_at, Marked}
 use Rattle.cuts_names.specs.Three.{formal, formal_down, Macro}
-use Rattle.cuts_names.specs.Macro.{node_macro, corner_level}
+use Rattle.cuts_names.proofs.Macro.{node_macro, corner_level}
 use Rattle.cuts_formal.specs.FacesFormal.{Kind, inherited, across, inside, Across, Inside, formal_across, formal_kind}
 use Rattle.cuts.specs.FacesNames.{under_map, under_corner, across_under, inside_under, new_on, different_down, inherited_same, inherited_marked, below_one_path, below_one_mark, inside_last, last_one_mark}
 

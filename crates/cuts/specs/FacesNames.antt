@@ -13,11 +13,13 @@ use Rattle.piece_edges.specs.Edges.{low_slot, high_slot, has_slot, joins, edge_b
 use Rattle.piece_edges.specs.Tables.{has_slot_lem, has_low, has_high}
 use Rattle.piece.specs.Shape.{Shape, mark, mark_fits, flag_fits, valid_shape, Valid}
 use Rattle.piece.specs.Every.{only_if, only_if_holds}
-use Rattle.cuts_names.specs.Names.{Name, mid, mid_sym, mid_injective_lem, level}
+use Rattle.cuts_names.specs.Names.{Name, mid, level}
+use Rattle.cuts_names.proofs.Names.{mid_sym, mid_injective_lem}
 use Rattle.cuts_names.specs.Pieces.{Piece, Side, renamed, mid_of, piece_down}
 use Rattle.cuts_names.specs.Base.{Different, HasCorner, OnFace, SameFace, marked_at}
 use Rattle.cuts_names.specs.Three.{formal, formal_down, stands_for, Macro}
-use Rattle.cuts_names.specs.Macro.{down_stands, stands_corner, stands_past, stands_mid, old_level, new_level, mid_alike, formal_small}
+use Rattle.cuts_names.specs.Macro.{stands_corner, stands_past, stands_mid, old_level, new_level, mid_alike}
+use Rattle.cuts_names.proofs.Macro.{down_stands, formal_small}
 use Rattle.cuts_formal.specs.FacesFormal.{some_slot_lem, is_some_slot, on_formal, lies, lies_old, lies_new, under, code, code_same, Inherited, Across, Inside, formal_different, formal_one_path, formal_one_mark}
 
 -- x lies under the names S, seen from level k: it is one of them, or they have a midpoint of level k + 1 with x for a parent.

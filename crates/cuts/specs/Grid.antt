@@ -5,10 +5,11 @@ use Rattle.std.proofs.Math.Nat.{two-pow-succ}
 use Rattle.piece_edges.specs.Edges.{low_slot, high_slot, slots_small}
 use Rattle.cuts_names.specs.Lists.{either_has}
 use Rattle.cuts_names.specs.Names as Names
-use Rattle.cuts_names.specs.Names.{Name, mid, level, level_mid_lem}
+use Rattle.cuts_names.specs.Names.{Name, mid, level}
+use Rattle.cuts_names.proofs.Names.{level_mid_lem}
 use Rattle.cuts_names.specs.Pieces.{Piece, Side, end_at, child_with, child, Node, generation, piece_down, piece_at, makes}
 use Rattle.cuts_names.specs.Base.{Marked}
-use Rattle.cuts_names.specs.Macro.{node_level}
+use Rattle.cuts_names.proofs.Macro.{node_level}
 
 -- ---- multiples of powers of two
 

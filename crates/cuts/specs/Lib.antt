@@ -17,5 +17,4 @@ pub mod LinkSets
 pub mod LinkAppend
 pub mod LinkGrown
 pub mod Statements
-pub mod Proved
 pub mod Rows

@@ -4,7 +4,8 @@ use Rattle.std.proofs.Common.{sym, ◌∙◌}
 use Rattle.cuts_names.specs.Names.{Name}
 use Rattle.cuts_names.specs.Pieces.{Piece, Side, Node, piece_at, child, piece_root_lem, piece_kid_lem}
 use Rattle.cuts.specs.Sets.{Cuts, There, HangsAt}
-use Rattle.cuts_names.specs.Macro.{Alike, mid_alike, makes_alike, child_alike}
+use Rattle.cuts_names.specs.Macro.{Alike, mid_alike, makes_alike}
+use Rattle.cuts_names.proofs.Macro.{child_alike}
 use Rattle.cuts.specs.Depth.{there_rooted}
 
 -- Every piece is like itself; likeness goes both ways, and on.

@@ -8,7 +8,8 @@ use Rattle.laws.specs.Pairs.{SamePair}
 use Rattle.piece_edges.specs.Edges.{low_slot, high_slot}
 use Rattle.piece.specs.Shape.{mark}
 use Rattle.cuts_names.specs.Names as Names
-use Rattle.cuts_names.specs.Names.{Name, mid, mid_sym, mid_injective_lem, mid_not_base_lem}
+use Rattle.cuts_names.specs.Names.{Name, mid, mid_not_base_lem}
+use Rattle.cuts_names.proofs.Names.{mid_sym, mid_injective_lem}
 use Rattle.cuts_names.specs.Base.{Marked, HasCorner, OnFace}
 use Rattle.cuts.specs.Smaller.{by_smaller, one_step}
 use Rattle.cuts.specs.Tables.{Tables, Made, Lawful, HasVertex, FaceHas, name_step, name_of, piece_of}

@@ -13,7 +13,8 @@ use Rattle.piece.specs.Shape.{slot_a, slot_b, Valid}
 use Rattle.cuts_names.specs.Lists.{either_has}
 use Rattle.cuts_names.specs.Names.{Name, mid}
 use Rattle.cuts_names.specs.Pieces.{Piece, Side, low, high, end_at, renamed, child_renamed, child_with, child, Node, kid, makes, piece_at, piece_root_lem, piece_kid_lem}
-use Rattle.cuts_names.specs.Macro.{Alike, child_alike, side_valid}
+use Rattle.cuts_names.specs.Macro.{Alike, side_valid}
+use Rattle.cuts_names.proofs.Macro.{child_alike}
 use Rattle.cuts.specs.LinkAlike.{alike_self, alike_then, kids_alike}
 use Rattle.cuts.specs.Smaller.{by_smaller, one_step}
 use Rattle.cuts.specs.Tables.{Tables, low_first, lower_end, higher_end, Midpoint, ChildOf, ProperlyCut, IsChild, Lawful, name_of, piece_of, child_on, parent_of, side_of, node_step, node_of}

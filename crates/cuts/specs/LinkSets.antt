@@ -7,7 +7,8 @@ use Rattle.std.proofs.lemmas.Bool.{not-true}
 use Rattle.laws.specs.Below.{same_tests, either, and_left, and_right, any_is, any_where, count_below, count_none, count_suc}
 use Rattle.piece_edges.specs.Edges.{low_slot, high_slot, slots_small}
 use Rattle.cuts_names.specs.Lists.{among}
-use Rattle.cuts_names.specs.Names.{Name, mid_injective_lem, same_name, name_equality}
+use Rattle.cuts_names.specs.Names.{Name, same_name, name_equality}
+use Rattle.cuts_names.proofs.Names.{mid_injective_lem}
 use Rattle.cuts_names.specs.Pieces.{Side, Node, kid, piece_at, makes}
 use Rattle.cuts.specs.Sets.{Cuts, There, Leaf, HangsAt}
 use Rattle.cuts_names.specs.Macro.{mid_alike, makes_alike}

@@ -24,10 +24,10 @@ abbrev row_of : Piece Name → Row
 row_of p = record { shape = p.shape; corners = p.corner 0 ∷ p.corner 1 ∷ p.corner 2 ∷ p.corner 3 ∷ [] }
 
 -- A base piece with these vertex numbers for corners.
-abbrev base_piece : Shape → List ℕ → Piece Name
+abbrev pub base_piece : Shape → List ℕ → Piece Name
 base_piece s numbers = record { shape = s; corner = λ k. Names.base (get_or numbers k 0) }
 
-abbrev at : ℕ → List Side → Node
+abbrev pub at : ℕ → List Side → Node
 at r path = record { root = r; path = path }
 
 -- The leaves of the set with these cuts.
@@ -39,12 +39,12 @@ hanging : (ℕ → Piece Name) → ℕ → List Node → List Node
 hanging base count cuts = passing (hangs_in base cuts) (leaves count cuts)
 
 -- What each of so many passes cuts, after these cuts.
-passes : (ℕ → Piece Name) → ℕ → ℕ → List Node → List (List Node)
+pub passes : (ℕ → Piece Name) → ℕ → ℕ → List Node → List (List Node)
 passes base count zero cuts = []
 passes base count (suc n) cuts = let more = hanging base count cuts in more ∷ passes base count n (cuts ++ more)
 
 -- What these rows compute with.
-rows : Bool
+unfoldable pub rows : Bool
 unfolding computed named child piece_down piece_at any_below hangs_on hangs_in leaves hanging passes
 rows = false
 
@@ -89,7 +89,7 @@ cube_leaves = refl
 
 -- Vertices (0,0,0), (64,0,0), (32,-32,0), (32,0,-32), (32,96,0), (32,0,96), (32,160,160), (96,96,96). The first two pieces share an edge and the
 -- next two share one; neither shared edge is the refinement edge of the later piece, so that a piece hangs on an edge that its own cut leaves whole.
-abbrev ladder : ℕ → Piece Name
+abbrev pub ladder : ℕ → Piece Name
 ladder r =
     get_or
     (base_piece (shaped 0 3 1 0 0 0) (0 ∷ 1 ∷ 2 ∷ 3 ∷ [])
@@ -97,11 +97,6 @@ ladder r =
     ∷ base_piece (shaped 1 3 1 0 1 0) (4 ∷ 5 ∷ 6 ∷ 7 ∷ [])
     ∷ [])
     r (base_piece (shaped 0 3 1 0 0 0) [])
-
--- After "select 0" the second program cuts record 1; then 2, 5 and 6; then 7, 9 and 11; then none.
-ladder_passes : passes ladder 3 4 (at 0 [] ∷ []) ≡ (at 1 [] ∷ []) ∷ (at 2 [] ∷ at 1 (low ∷ []) ∷ at 1 (high ∷ []) ∷ []) ∷ (at 2 (high ∷ []) ∷ at 1 (high ∷ low ∷ []) ∷ at 1 (high ∷ high ∷ []) ∷ []) ∷ [] ∷ []
-unfolding rows
-ladder_passes = refl
 
 -- The nodes of its records 0 to 18, in their order.
 abbrev ladder_nodes : List Node

@@ -5,13 +5,13 @@ use Rattle.std.proofs.Common.{ap, ◌∙◌, ⊎_elim, arith, length-append}
 use Rattle.std.proofs.Math.Bool.{true, false, not, ◌&&◌}
 use borrow.Author.Tests.{not-true}
 use Rattle.laws.specs.Below.{and_left, and_right, or_second, either, same_tests}
-use Rattle.cuts_names.specs.Lists.{both_ways, not_so, among, Distinct, any_of, any_of_is, any_of_where, passing, passing_among, passing_distinct, among_append, distinct_append, no_longer}
+use Rattle.cuts_names.specs.Lists.{both_ways, not_so, among, Distinct, any_of, any_of_is, passing, passing_among, passing_distinct, among_append, distinct_append, no_longer}
 use Rattle.cuts_names.specs.Names.{Name, same_name, name_equality}
 use Rattle.cuts_names.specs.Pieces.{Piece, Side, low, high, Node, kid, piece_at, makes}
 use Rattle.cuts.specs.Sets.{Cuts, CutsWithin}
 use Rattle.cuts.specs.Least.{same_node, node_equality}
 use Rattle.cuts.specs.Count.{CutList, LeafList, leaves_count_lem}
-use Rattle.cuts_coarser.specs.TakenAway.{LeafChildren, CutAt, TakenAway, Remains}
+use Rattle.cuts_coarser.specs.TakenAway.{LeafChildren, CutAt, Remains}
 
 -- ---- it is one set
 
@@ -24,12 +24,6 @@ module _ (base : ℕ → Piece Name) {count : ℕ} (C : Cuts count) (Named : Nod
       into D E d e t =
           let cut = d.within n t in
           ⊎_elim (λ u. u) (λ f. absurd (both_ways t ((d.gone n cut).1 ((e.gone n cut).0 f)))) (either (E.has n))
-
-  -- Where no piece is named all cuts remain.
-  pub none_named : ((n : Node) → C.has n ≡ true → Named n → ⊥) → (D : Cuts count) → Remains base C Named D → (n : Node) → D.has n ≡ C.has n
-  none_named none D d n =
-      same_tests (D.has n) (C.has n) (d.within n)
-      (λ t. ⊎_elim (λ u. u) (λ f. absurd (none n t (((d.gone n t).0 f).named n (record { is_cut_lem = t; makes_it = refl })))) (either (D.has n)))
 
   -- ---- it exists, where the cuts can be listed and there is a test for the named ones
 
@@ -44,25 +38,15 @@ module _ (base : ℕ → Piece Name) {count : ℕ} (C : Cuts count) (Named : Nod
 
     module _ (exactly : (n : Node) → C.has n ≡ true → (is_named n ≡ true) ↔ Named n) (cuts : List Node) (listed : CutList C cuts) where
       -- A cut that is not freed holds its vertex.
-      holds : (x : Name) (n : Node) → CutAt base C x n → freed n ≡ false → held cuts x ≡ true
+      pub holds : (x : Name) (n : Node) → CutAt base C x n → freed n ≡ false → held cuts x ≡ true
       unfolding held
       holds x n a f =
           let same : same_name (makes (piece_at base n)) x ≡ true = rw a.makes_it (name_equality.self x) in
           any_of_is node_equality (λ n. same_name (makes (piece_at base n)) x && not (freed n)) cuts n (listed.exact n ∙ a.is_cut_lem)
           (ap₂ ◌&&◌ same (ap not f))
 
-      -- A vertex that is held is held by such a cut.
-      holder : (x : Name) → held cuts x ≡ true → (n : Node) × CutAt base C x n × (freed n ≡ false)
-      unfolding held
-      holder x h =
-          let (n, a, t) = any_of_where node_equality (λ n. same_name (makes (piece_at base n)) x && not (freed n)) cuts h in (
-            n,
-            record { is_cut_lem = sym (listed.exact n) ∙ a; makes_it = name_equality.only (makes (piece_at base n)) x (and_left (same_name (makes (piece_at base n)) x) _ t) },
-            not-true (freed n) (and_right (same_name (makes (piece_at base n)) x) _ t),
-          )
-
       -- A cut piece is freed exactly where it is named and has leaves as children.
-      freed_named : (n : Node) → C.has n ≡ true → freed n ≡ true → Named n × LeafChildren C n
+      pub freed_named : (n : Node) → C.has n ≡ true → freed n ≡ true → Named n × LeafChildren C n
       unfolding freed
       freed_named n t f =
           let both = and_right (is_named n) _ f in (
@@ -74,36 +58,8 @@ module _ (base : ℕ → Piece Name) {count : ℕ} (C : Cuts count) (Named : Nod
           uncut low both = not-true (C.has (kid n low)) (and_left (not (C.has (kid n low))) _ both)
           uncut high both = not-true (C.has (kid n high)) (and_right (not (C.has (kid n low))) _ both)
 
-      named_freed : (n : Node) → C.has n ≡ true → Named n → LeafChildren C n → freed n ≡ true
-      unfolding freed
-      named_freed n t named leaves = ap₂ ◌&&◌ ((exactly n t).1 named) (ap₂ ◌&&◌ (ap not (leaves low).uncut) (ap not (leaves high).uncut))
-
-      -- A made vertex is taken away exactly where nothing holds it.
-      pub taken_exactly : (n : Node) → C.has n ≡ true → (held cuts (makes (piece_at base n)) ≡ false) ↔ TakenAway base C Named (makes (piece_at base n))
-      taken_exactly n t = (there, back)
-        where
-          x : Name
-          x = makes (piece_at base n)
-
-          free : held cuts x ≡ false → (m : Node) → CutAt base C x m → freed m ≡ true
-          free h m a = ⊎_elim (λ f. f) (λ f. absurd (both_ways (holds x m a f) h)) (either (freed m))
-
-          there : held cuts x ≡ false → TakenAway base C Named x
-          there h =
-              record {
-                cut = n;
-                made = record { is_cut_lem = t; makes_it = refl };
-                leaf_children_lem = λ m a. (freed_named m a.is_cut_lem (free h m a)).1;
-                named = λ m a. (freed_named m a.is_cut_lem (free h m a)).0;
-              }
-
-          back : TakenAway base C Named x → held cuts x ≡ false
-          back taken =
-              not_so (held cuts x)
-              (λ h. let (m, a, f) = holder x h in both_ways (named_freed m a.is_cut_lem (taken.named m a) (taken.leaf_children_lem m a)) f)
-
       -- The cuts at vertices that some cut holds.
-      pub remaining : Cuts count
+      unfoldable pub remaining : Cuts count
       remaining = record { has = has'; rooted = λ n t. C.rooted n (and_left (C.has n) _ t); closed = closed' }
         where
           has' : Node → Bool
@@ -115,18 +71,6 @@ module _ (base : ℕ → Piece Name) {count : ℕ} (C : Cuts count) (Named : Nod
               let cut = C.closed n side kid_cut in
               let busy : freed n ≡ false = not_so (freed n) (λ f. both_ways kid_cut ((freed_named n cut f).1 side).uncut) in
               ap₂ ◌&&◌ cut (holds (makes (piece_at base n)) n (record { is_cut_lem = cut; makes_it = refl }) busy)
-
-      -- They are what remains.
-      pub remaining_remains : Remains base C Named remaining
-      unfolding remaining
-      remaining_remains =
-          record {
-            within = λ n t. and_left (C.has n) _ t;
-            gone = λ n t. (
-              λ f. (taken_exactly n t).0 (rw t at f),
-              λ taken. rw t ((taken_exactly n t).1 taken),
-            );
-          }
 
 -- ---- how many
 

@@ -5,12 +5,12 @@ use Rattle.std.specs.Prelude.{◌≡◌, Bool, true, false, not, ◌&&◌, List,
 use Rattle.std.proofs.Math.Path.{refl}
 use Rattle.std.proofs.Common.{ap, ap₂, ◌∙◌, ⊎_elim, arith}
 use borrow.Author.Tests.{ltb-true, eqb-true, eqb-false, ne_eqb}
-use Rattle.laws.specs.Below.{all_below, any_below, all_at, all_of, any_is, and_left, and_right, either, same_tests}
+use Rattle.laws.specs.Below.{all_below, any_below, all_at, all_of, any_is, and_left, and_right, either}
 use Rattle.piece.specs.Shape.{type_o}
 use Rattle.piece.specs.Every.{shaped, only_if, only_if_holds}
 use Rattle.cuts_names.specs.Names as Names
 use Rattle.cuts_names.specs.Names.{Name, same_name, name_equality, named}
-use Rattle.cuts_names.specs.Lists.{both_ways, among, any_of, any_of_is, any_of_where, once_distinct}
+use Rattle.cuts_names.specs.Lists.{both_ways, among, any_of, any_of_is, once_distinct}
 use Rattle.cuts_names.specs.Pieces.{Piece, Side, low, high, mid_of, makes, child, Node, kid, piece_down, piece_at}
 use Rattle.cuts_names.specs.Macro.{computed}
 use Rattle.cuts_names.specs.Base.{SameCorners, Different, SameFace, marked_at, Marked}
@@ -18,9 +18,9 @@ use Rattle.cuts.specs.Sets.{Cuts, There, CutsWithin, NoneHangs}
 use Rattle.cuts.specs.Faces.{whole_same}
 use Rattle.cuts.specs.Least.{same_node, node_equality}
 use Rattle.cuts.specs.Count.{CutList, leaves_of, leaves_listed_lem}
-use Rattle.cuts.specs.Fuel.{hangs_on, hangs_in, hangs_found}
+use Rattle.cuts.specs.Fuel.{hangs_on, hangs_in}
+use Rattle.cuts.proofs.Fuel.{hangs_found}
 use Rattle.cuts_faces.specs.Figure6.{none_fails}
-use Rattle.cuts_coarser.specs.TakenAway.{Remains}
 
 -- ---- the base
 
@@ -68,7 +68,7 @@ together r t =
     && all_below 4 (λ i. all_below 4 (λ j. let alike = same_name (marked_at (ring r) i) (marked_at (ring t) j) in only_if (face_in (ring r) i (ring t) j) alike))
 
 -- What these rows compute with.
-rows : Bool
+unfoldable pub rows : Bool
 unfolding computed named child piece_down piece_at any_below hangs_on hangs_in face_in together
 rows = false
 
@@ -130,15 +130,15 @@ ring_marked =
 -- ---- the cuts
 
 -- The piece that these sides lead to.
-abbrev at : ℕ → List Side → Node
+abbrev pub at : ℕ → List Side → Node
 at r path = record { root = r; path = path }
 
 -- A base piece and its two children.
-abbrev three_of : ℕ → List Node → List Node
+abbrev pub three_of : ℕ → List Node → List Node
 three_of r rest = at r [] ∷ at r (low ∷ []) ∷ at r (high ∷ []) ∷ rest
 
 -- These of all three base pieces.
-abbrev nine : List Node
+abbrev pub nine : List Node
 nine = three_of 0 (three_of 1 (three_of 2 []))
 
 -- The parent of a node is among the cuts; a base piece has none.
@@ -181,35 +181,6 @@ nine_rests n l x =
     both_ways
     (any_of_is node_equality (hangs_in ring nine) twelve n ((leaves_listed_lem all_nine nine nine_listed).all n l) (hangs_found ring all_nine nine nine_listed n x))
     none_found
-
--- ---- none of the nine can ever go
-
--- Some cut at x of the list has a child that is cut.
-busy : Name → Bool
-busy x = any_of (λ n. same_name (makes (piece_at ring n)) x && among same_node (kid n low) nine) nine
-
--- Each of the three midpoints has one.
-all_busy : any_of (λ n. not (busy (makes (piece_at ring n)))) nine ≡ false
-unfolding rows busy
-all_busy = refl
-
--- From whatever set holds the nine, and whatever is named, the nine remain; so taking back again and again does not reach the base.
-pub nine_remain : (C : Cuts 3) → CutsWithin all_nine C → (Named : Node → Type 0) (D : Cuts 3) → Remains ring C Named D → CutsWithin all_nine D
-unfolding busy
-nine_remain C inside Named D r n t =
-    let cut = inside n t in
-    let x = makes (piece_at ring n) in
-    let (m, a, here) = any_of_where node_equality (λ n. same_name (makes (piece_at ring n)) x && among same_node (kid n low) nine) nine (none_fails (λ n. busy (makes (piece_at ring n))) nine all_busy n t) in
-    let same : makes (piece_at ring m) ≡ x = name_equality.only (makes (piece_at ring m)) x (and_left (same_name (makes (piece_at ring m)) x) _ here) in
-    let kid_cut : C.has (kid m low) ≡ true = inside (kid m low) (and_right (same_name (makes (piece_at ring m)) x) _ here) in
-    ⊎_elim
-    (λ u. u)
-    (λ f. absurd (both_ways kid_cut (((r.gone n cut).0 f).leaf_children_lem m (record { is_cut_lem = inside m a; makes_it = same }) low).uncut))
-    (either (D.has n))
-
--- So with just these nine cut nothing goes.
-pub nothing_goes : (Named : Node → Type 0) (D : Cuts 3) → Remains ring all_nine Named D → (n : Node) → D.has n ≡ all_nine.has n
-nothing_goes Named D r n = same_tests (D.has n) (all_nine.has n) (r.within n) (nine_remain all_nine (λ m t. t) Named D r n)
 
 -- ---- the nine are cut wherever one piece is
 
@@ -264,7 +235,3 @@ module _ (X : Cuts 3) (rests : NoneHangs ring X) where
       up : (r : ℕ) (path : List Side) → X.has (at r path) ≡ true → X.has (at r []) ≡ true
       up r [] h = h
       up r (side ∷ path) h = up r path (X.closed (at r path) side h)
-
--- So once anything is cut, whatever is named, taking back leaves the nine cut: none of them can ever go.
-pub never_the_base : (C : Cuts 3) → NoneHangs ring C → (n : Node) → C.has n ≡ true → (Named : Node → Type 0) (D : Cuts 3) → Remains ring C Named D → CutsWithin all_nine D
-never_the_base C rests n t = nine_remain C (nine_cut_with C rests n t)

@@ -3,10 +3,11 @@ use Rattle.std.specs.Prelude.{◌≡◌, ◌⊎◌, ◌≢◌, List, [], ◌∷�
 use Rattle.std.proofs.Common.{sym, ap, ◌∙◌, subst, inl, inr, ⊎_elim, arith, length-append, eqb-true}
 use Rattle.std.proofs.lemmas.Bool.{eqb-false}
 use Rattle.laws.specs.Below.{either}
-use Rattle.cuts_names.specs.Names.{Name, level, level_mid_lem}
+use Rattle.cuts_names.specs.Names.{Name, level}
+use Rattle.cuts_names.proofs.Names.{level_mid_lem}
 use Rattle.cuts_names.specs.Pieces.{Piece, Side, Node, generation, kid, piece_at, piece_kid_lem, makes, child}
 use Rattle.cuts_names.specs.Base.{HasCorner, Marked}
-use Rattle.cuts_names.specs.Macro.{node_level}
+use Rattle.cuts_names.proofs.Macro.{node_level}
 use Rattle.cuts.specs.Faces.{corners_different_lem}
 use Rattle.cuts_faces.specs.Apart.{After}
 use Rattle.cuts_faces.specs.Kid.{new_slot, stay_slot, new_slot_small, makes_is, new_corner, old_corner}

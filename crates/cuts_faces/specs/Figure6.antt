@@ -16,7 +16,8 @@ use Rattle.cuts_names.specs.Base.{HasCorner, OnFace, SameCorners, SameFace, Diff
 use Rattle.cuts.specs.Sets.{Cuts, NoneHangs}
 use Rattle.cuts.specs.Least.{same_node, node_equality}
 use Rattle.cuts.specs.Count.{CutList, LeafList, leaves_of, leaves_listed_lem}
-use Rattle.cuts.specs.Fuel.{hangs_on, hangs_in, hangs_found}
+use Rattle.cuts.specs.Fuel.{hangs_on, hangs_in}
+use Rattle.cuts.proofs.Fuel.{hangs_found}
 use Rattle.cuts_faces.specs.FaceToFace.{ProperlyMarked, LiesIn, InTwo, InOne, FaceToFace}
 use Rattle.cuts_faces.specs.Lies.{lies_corner, lies_parents}
 

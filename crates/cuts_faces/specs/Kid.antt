@@ -7,7 +7,8 @@ use Rattle.piece_edges.specs.Edges.{low_slot, high_slot, has_slot, on_face, oppo
 use Rattle.piece.specs.Shape.{Shape, mark, slot_a, slot_b, set_p, mark_fits, flag_fits, valid_shape, Valid}
 use Rattle.piece.specs.Every.{every_shape, every_shape_lem, only_if, only_if_holds}
 use Rattle.piece_cut.specs.Cut.{child_shape}
-use Rattle.cuts_names.specs.Names.{Name, mid, mid_sym}
+use Rattle.cuts_names.specs.Names.{Name, mid}
+use Rattle.cuts_names.proofs.Names.{mid_sym}
 use Rattle.cuts_names.specs.Pieces.{Piece, Side, low, high, end_at, mid_of, makes, child}
 use Rattle.cuts_names.specs.Base.{OnFace, SameFace, Different, marked_at}
 use Rattle.cuts_names.specs.Macro.{computed, edge_below}

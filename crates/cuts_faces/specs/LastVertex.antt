@@ -7,11 +7,13 @@ use Rattle.std.proofs.lemmas.Bool.{eqb-false}
 use Rattle.laws.specs.Below.{all_at, and_left, and_right, or_second, either}
 use Rattle.piece_edges.specs.Edges.{low_slot, high_slot, on_face, opposite, slots_small}
 use Rattle.piece.specs.Shape.{mark, set_p}
-use Rattle.cuts_names.specs.Names.{Name, mid_injective_lem, level}
+use Rattle.cuts_names.specs.Names.{Name, level}
+use Rattle.cuts_names.proofs.Names.{mid_injective_lem}
 use Rattle.cuts_names.specs.Pieces.{Piece, Side, renamed, makes, child, Node, generation, kid, piece_down, piece_at, piece_kid_lem}
 use Rattle.cuts_names.specs.Base.{Different, SameFace, marked_at, Marked}
 use Rattle.cuts_names.specs.Three.{formal, formal_down, stands_for, Macro}
-use Rattle.cuts_names.specs.Macro.{formal_small, formal_valid, edge_below, stands_mid, down_stands, down_makes, node_valid, node_level, corner_level}
+use Rattle.cuts_names.specs.Macro.{edge_below, stands_mid}
+use Rattle.cuts_names.proofs.Macro.{formal_small, formal_valid, down_stands, down_makes, node_valid, node_level, corner_level}
 use Rattle.cuts_formal.specs.FacesFormal.{Across}
 use Rattle.cuts.specs.FacesNames.{face_slots, corner_is, stands_injective, ends_beside_lem}
 use Rattle.cuts.specs.Faces.{face_flip, down_append, Made, formal_of, top_rooted, top_macro, corners_different_lem, below_same, one_top, shared_face_one_mark}

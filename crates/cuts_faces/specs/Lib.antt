@@ -7,7 +7,5 @@ pub mod CutAway
 pub mod LastFormal
 pub mod LastVertex
 pub mod Step
-pub mod AtMost
 pub mod Twin
-pub mod Proved
 pub mod Figure6

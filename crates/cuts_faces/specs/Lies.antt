@@ -2,7 +2,8 @@
 use Rattle.std.specs.Prelude.{◌≡◌, ℕ, ◌<◌}
 use Rattle.std.proofs.Common.{sym, ◌∙◌, ⊎_elim}
 use Rattle.cuts_names.specs.Names as Names
-use Rattle.cuts_names.specs.Names.{Name, mid, mid_injective_lem, mid_not_base_lem}
+use Rattle.cuts_names.specs.Names.{Name, mid, mid_not_base_lem}
+use Rattle.cuts_names.proofs.Names.{mid_injective_lem}
 use Rattle.cuts_names.specs.Pieces.{Piece}
 use Rattle.cuts_names.specs.Base.{OnFace}
 use Rattle.cuts_faces.specs.FaceToFace.{LiesIn, corner, midpoint}

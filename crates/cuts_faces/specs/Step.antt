@@ -6,10 +6,11 @@ use Rattle.std.proofs.lemmas.Bool.{eqb-false}
 use Rattle.laws.specs.Below.{either}
 use Rattle.laws.specs.Pairs.{SamePair}
 use Rattle.piece.specs.Shape.{Valid}
-use Rattle.cuts_names.specs.Names.{Name, mid_injective_lem}
+use Rattle.cuts_names.specs.Names.{Name}
+use Rattle.cuts_names.proofs.Names.{mid_injective_lem}
 use Rattle.cuts_names.specs.Pieces.{Piece, Side, Node, makes, child, kid, piece_at, piece_kid_lem}
 use Rattle.cuts_names.specs.Base.{Different, HasCorner, OnFace, SameFace, Marked}
-use Rattle.cuts_names.specs.Macro.{node_valid}
+use Rattle.cuts_names.proofs.Macro.{node_valid}
 use Rattle.cuts.specs.Faces.{all_four, corners_different_lem, node_determined_lem}
 use Rattle.cuts_faces.specs.Apart.{other}
 use Rattle.cuts_faces.specs.Kid.{new_slot, stay_slot, new_slot_small, slots_differ, makes_is, new_corner, old_corner}

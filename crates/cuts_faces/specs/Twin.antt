@@ -9,11 +9,13 @@ use Rattle.std.proofs.lemmas.Bool.{eqb-false, not-true}
 use Rattle.laws.specs.Below.{any_below, all_of, any_where, any_is, and_left, and_right, either}
 use Rattle.piece_edges.specs.Edges.{on_face}
 use Rattle.piece.specs.Shape.{mark, Valid}
-use Rattle.cuts_names.specs.Names.{Name, mid_injective_lem, same_name, name_equality}
+use Rattle.cuts_names.specs.Names.{Name, same_name, name_equality}
+use Rattle.cuts_names.proofs.Names.{mid_injective_lem}
 use Rattle.cuts_names.specs.Lists.{both_ways, not_so}
 use Rattle.cuts_names.specs.Pieces.{Piece, Side, low, high, Node, kid, piece_at, makes, mid_of, child}
 use Rattle.cuts_names.specs.Base.{Different, OnFace, SameFace, marked_at, Marked}
-use Rattle.cuts_names.specs.Macro.{edge_below, node_valid}
+use Rattle.cuts_names.specs.Macro.{edge_below}
+use Rattle.cuts_names.proofs.Macro.{node_valid}
 use Rattle.cuts_formal.specs.FacesFormal.{some_slot, each_slot, some_slot_lem, is_some_slot, each_slot_lem}
 use Rattle.cuts.specs.Sets.{Cuts, There, Leaf, NoneHangs}
 use Rattle.cuts.specs.Depth.{there_rooted, cut_there_lem}

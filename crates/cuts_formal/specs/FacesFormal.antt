@@ -16,7 +16,8 @@ use Rattle.piece.specs.Shape.{Shape, mark, unset, Valid}
 use Rattle.piece.specs.Every.{every_shape, every_shape_lem, only_if, only_if_holds}
 use Rattle.cuts_names.specs.Pieces.{Piece, Side, low, high}
 use Rattle.cuts_names.specs.Three.{formal, formal_down}
-use Rattle.cuts_names.specs.Macro.{every_below, every_below_lem, computed, formal_small}
+use Rattle.cuts_names.specs.Macro.{every_below, every_below_lem, computed}
+use Rattle.cuts_names.proofs.Macro.{formal_small}
 
 -- ---- what lies under a face
 

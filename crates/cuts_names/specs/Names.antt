@@ -1,10 +1,8 @@
 -- Names of vertices: a base vertex by its number, a made vertex by the names of its two parents, whichever way round they are given.
 use Rattle.std.specs.Prelude.{◌≡◌, refl, Bool, true, false, cond, ◌⊎◌, ◌≢◌, ℕ, suc, max, ltb, eqb}
-use Rattle.std.proofs.Common.{sym, ap, ap₂, ◌∙◌, subst, inl, inr, ⊎_elim, arith, eqb-true, ltb-true, ltb-false, lt-ltb, le-ltb, eq-eqb, ne_eqb}
+use Rattle.std.proofs.Common.{sym, ap, ap₂, ◌∙◌, subst, ⊎_elim, arith, eqb-true, ltb-true, ltb-false, lt-ltb, le-ltb, eq-eqb, ne_eqb}
 use Rattle.std.proofs.lemmas.Bool.{false≢true, eqb-false}
-use Rattle.std.proofs.Math.Nat.{max_comm}
 use Rattle.laws.specs.Below.{either}
-use Rattle.laws.specs.Pairs.{SamePair}
 use Rattle.cuts_names.specs.Lists.{Equality}
 
 pub data Name : Type 0 where
@@ -13,10 +11,10 @@ pub data Name : Type 0 where
 
 -- ---- an order, in which the two parents of a made vertex are put
 
-data Way : Type 0 where
+pub data Way : Type 0 where
   before same after : Way
 
-flip : Way → Way
+unfoldable pub flip : Way → Way
 flip before = after
 flip same = same
 flip after = before
@@ -30,7 +28,7 @@ next after w = after
 numbers : ℕ → ℕ → Way
 numbers m n = cond (ltb m n) before (cond (eqb m n) same after)
 
-order : Name → Name → Way
+pub order : Name → Name → Way
 order (base m) (base n) = numbers m n
 order (base m) (made c d) = before
 order (made a b) (base n) = after
@@ -57,7 +55,7 @@ next_flip before w = refl
 next_flip same w = refl
 next_flip after w = refl
 
-order_flip : (a b : Name) → order b a ≡ flip (order a b)
+pub order_flip : (a b : Name) → order b a ≡ flip (order a b)
 unfolding order flip
 order_flip (base m) (base n) = numbers_flip m n
 order_flip (base m) (made c d) = refl
@@ -92,7 +90,7 @@ numbers_same m n e =
     (λ (f : ltb m n ≡ false). ⊎_elim (λ t. eqb-true m n t) (λ (d : eqb m n ≡ false). absurd (after≢same (rw (f, d) at e))) (either (eqb m n)))
     (either (ltb m n))
 
-order_same : (a b : Name) → order a b ≡ same → a ≡ b
+pub order_same : (a b : Name) → order a b ≡ same → a ≡ b
 unfolding order
 order_same (base m) (base n) e = ap base (numbers_same m n e)
 order_same (base m) (made c d) e = absurd (before≢same e)
@@ -103,50 +101,14 @@ order_same (made a b) (made c d) e =
 
 -- ---- midpoints
 
-in_order : Way → Name → Name → Name
+unfoldable pub in_order : Way → Name → Name → Name
 in_order before a b = made a b
 in_order same a b = made a b
 in_order after a b = made b a
 
 -- The vertex halfway between two vertices: its parents, put in order.
-pub mid : Name → Name → Name
+unfoldable pub mid : Name → Name → Name
 mid a b = in_order (order a b) a b
-
--- It has one of the two for its first parent, and the other for its second.
-pub mid_which : (a b : Name) → (mid a b ≡ made a b) ⊎ (mid a b ≡ made b a)
-unfolding mid in_order
-mid_which a b = go (order a b)
-  where
-    go : (w : Way) → (in_order w a b ≡ made a b) ⊎ (in_order w a b ≡ made b a)
-    go before = inl refl
-    go same = inl refl
-    go after = inr refl
-
--- It does not matter which of the two is given first.
-pub mid_sym : (a b : Name) → mid a b ≡ mid b a
-unfolding mid in_order flip
-mid_sym a b = go (order a b) refl
-  where
-    go : (w : Way) → order a b ≡ w → in_order (order a b) a b ≡ in_order (order b a) b a
-    go before e = rw (e, order_flip a b, e)
-    go same e = let q = order_same a b e in rw q
-    go after e = rw (e, order_flip a b, e)
-
--- A midpoint belongs to one pair of vertices.
-pub mid_injective_lem : (a b c d : Name) → mid a b ≡ mid c d → SamePair a b c d
-unfolding mid in_order flip
-mid_injective_lem a b c d e = go (order a b) (order c d) e
-  where
-    go : (v w : Way) → in_order v a b ≡ in_order w c d → SamePair a b c d
-    go before before q = inl (cc, cc)
-    go before same q = inl (cc, cc)
-    go before after q = inr (cc, cc)
-    go same before q = inl (cc, cc)
-    go same same q = inl (cc, cc)
-    go same after q = inr (cc, cc)
-    go after before q = inr (cc, cc)
-    go after same q = inr (cc, cc)
-    go after after q = inl (cc, cc)
 
 -- No base vertex is a midpoint.
 pub mid_not_base_lem : (a b : Name) (n : ℕ) → mid a b ≡ base n → ⊥
@@ -161,22 +123,13 @@ mid_not_base_lem a b n e = go (order a b) e
 -- ---- levels
 
 -- A base vertex has level 0, a made vertex one more than the higher of its parents.
-pub level : Name → ℕ
+unfoldable pub level : Name → ℕ
 level (base n) = 0
 level (made a b) = suc (max (level a) (level b))
 
 pub level_base_lem : (n : ℕ) → level (base n) ≡ 0
 unfolding level
 level_base_lem n = refl
-
-pub level_mid_lem : (a b : Name) → level (mid a b) ≡ suc (max (level a) (level b))
-unfolding mid level in_order
-level_mid_lem a b = go (order a b)
-  where
-    go : (w : Way) → level (in_order w a b) ≡ suc (max (level a) (level b))
-    go before = refl
-    go same = refl
-    go after = ap suc (max_comm (level b) (level a))
 
 -- ---- equal names
 

@@ -22,7 +22,8 @@ use Rattle.stored.specs.declared.Kind.{Kind}
 use Rattle.stored.specs.Layout.{version1, limits, kind1, mesh_length, base_length, grown_length, header_from, Mesh, mesh_bytes, Stored, stored1, header_of, StoredSelection}
 use Rattle.check_refusals.specs.declared.Report.{Report}
 use Rattle.check_refusals.specs.Check.{check_number, check_of}
-use Rattle.check_meaning.specs.HangingFirst.{HangingEdge, hanging_first}
+use Rattle.check_meaning.specs.HangingFirst.{HangingEdge}
+use Rattle.check_meaning.proofs.HangingFirst.{hanging_first}
 use Rattle.build_service.specs.Build.{plain_mesh, build_number, build_bytes}
 use Rattle.build_meaning.specs.Output as Build
 use Rattle.refine_service.specs.Refine.{closed, result_of, refine_number, refine_bytes}

@@ -9,7 +9,7 @@ use Rattle.std.proofs.Common.{sym, ◌∙◌}
 use Rattle.laws.specs.Lists.{zero_past, Bytes}
 use Rattle.stored.specs.Layout.{mesh_bytes, Stored, StoredSelection}
 use Rattle.check_refusals.specs.Rows.{report_number}
-use Rattle.check_meaning.specs.Exactly.{accepts_exactly}
+use Rattle.check_meaning.proofs.Exactly.{accepts_exactly}
 use Rattle.build_service.specs.Build.{plain_bytes}
 use Rattle.build_meaning.specs.Output as Build
 use Rattle.refine_service.specs.Refine.{closed, result_of}

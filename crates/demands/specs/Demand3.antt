@@ -157,9 +157,6 @@ good_exactly = Proof.earned
 abbrev pub result : (s : Stored) (x : StoredMesh s) (selection : StoredSelection) (bytes : List ℕ) (room : ℕ) (r : RefinedFrom x selection bytes room) → StoredMesh (of_kind s r.mesh [])
 result s x selection bytes room r = record { job = x.job; round = x.round + 1; base = x.base; cuts = r.least.set; right = r.least.right; stores = r.least.stores }
 
-pub accepted_again : (s : Stored) (x : StoredMesh s) (selection : StoredSelection) (bytes : List ℕ) (room : ℕ) (r : RefinedFrom x selection bytes room) → (ours.check (of_kind s r.mesh [])).number ≡ 0
-accepted_again s x selection bytes room r = ((demand_2.accepted_exactly (of_kind s r.mesh [])).1 (result s x selection bytes room r)).1
-
 -- As a number: the least multiple of three that reaches the depth reported before and every selected piece's child.
 pub no_deeper_than : (s : Stored) (x : StoredMesh s) (selection : StoredSelection) (bytes : List ℕ) (room : ℕ) (r : RefinedFrom x selection bytes room)
     (children : ℕ) → ((n : Node) → SelectedPiece x.stores.numbers selection n → suc (generation n) ≤ children) →

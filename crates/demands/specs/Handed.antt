@@ -6,29 +6,24 @@
 -- gives 22 exactly where a base record's is negative, and rules 1 to 5 hold, is `refuses_exactly` (check_meaning/specs/Exactly).
 use Rattle.std.specs.Prelude.{◌≡◌, refl, List, [], ◌∷◌, ℕ, ◌+◌, ◌<◌, ℤ, pos, ◌*ℤ◌, ◌<ℤ◌}
 use Rattle.std.proofs.lemmas.List.Edits.{sets}
-use Rattle.piece.specs.Shape.{last_generation}
 use Rattle.stored.specs.Layout.{Stored, stored1}
 use Rattle.mesh_tables.specs.Tables.{tables_of, all_records, signed_at}
 use Rattle.check_refusals.specs.Check.{check_number}
 use Rattle.check_meaning.specs.Accepted.{Cut, first_child}
-use Rattle.check_meaning.specs.Exactly.{accepts_exactly}
+use Rattle.check_meaning.proofs.Exactly.{accepts_exactly}
 use Rattle.check_meaning.specs.Cuts.{stored_four}
-use Rattle.check_meaning.specs.Volumes.{signed, children_halve_signed, every_right_handed}
+use Rattle.check_meaning.specs.Volumes.{signed}
+use Rattle.check_meaning.proofs.Volumes.{children_halve_signed, every_right_handed}
 use Rattle.build_service.specs.Build.{build_number, build_bytes}
 use Rattle.build_meaning.specs.Rows.{computed as build_computed}
 use Rattle.refine_meaning.specs.Rows.{K-coordinates, K, computed as refine_computed}
-use Rattle.cuts_names.specs.Pieces.{Side, Node, generation, kid}
 use Rattle.cuts.specs.Depth.{there_rooted}
 use Rattle.demands_words.specs.Words as Words
-use Rattle.demands_words.specs.Words.{BaseMesh, ProperlyMarked, StoredMesh, plain_base, built_base, AsGiven, BuildAccepts}
+use Rattle.demands_words.specs.Words.{StoredMesh, plain_base, built_base, AsGiven, BuildAccepts}
 use Rattle.demands_proofs.specs.Handed as Proved
 use Rattle.demands_proofs.specs.AsGiven.{as_given}
 
 -- ---- over base meshes: every cut of every piece that cutting a properly marked base can give, up to generation 15
-
--- "a child's signed value is exactly half of its parent's"
-pub halved : (b : BaseMesh) → ProperlyMarked b → (n : Node) → n.root < b.pieces → generation n < last_generation → (side : Side) → pos 2 *ℤ Words.signed_at b (kid n side) ≡ Words.signed_at b n
-halved = Proved.halved
 
 -- Every piece of a stored mesh is right-handed, whichever record it is.
 pub right_handed : (s : Stored) (x : StoredMesh s) (r : ℕ) → r < x.stores.numbers.records → pos 0 <ℤ Words.signed_at x.base (x.stores.numbers.node_at r)

@@ -6,30 +6,26 @@
 -- holds they are in `check_meaning/specs/Accepted`. That check and build give 23 exactly where the rules before it hold and some vertex hangs is `check_refuses` and
 -- `build_gives` (Numbers).
 use Rattle.std.specs.Prelude.{◌≡◌, refl, true, ◌↔◌, List, [], ◌∷◌, ◌++◌, ℕ, ℤ, pos, negsuc, ◌+ℤ◌, ◌*ℤ◌, ◌<ℤ◌}
-use Rattle.std.proofs.Common.{sym, ◌∙◌, arith}
 use Rattle.std.proofs.lemmas.List.Edits.{sets}
-use Rattle.laws.specs.Lists.{bytes_none}
 use Rattle.grid.specs.Places.{Point}
 use Rattle.grid_volume.specs.Volume.{signed_of}
 use Rattle.grid_inside.specs.Inside.{part_of, lies_in}
 use Rattle.grid_inside.specs.Parts.{parts_sum, parts_mean_x, parts_mean_y, parts_mean_z}
-use Rattle.grid_inside.specs.Weights.{WeightedMean, closed_exactly}
+use Rattle.grid_inside.specs.Weights.{WeightedMean}
+use Rattle.grid_inside.proofs.Weights.{closed_exactly}
 use Rattle.stored.specs.Layout.{Stored, stored1}
 use Rattle.mesh_tables.specs.Tables.{tables_of}
 use Rattle.check_refusals.specs.Check.{check_number}
-use Rattle.check_refusals.specs.Rows.{report_number}
 use Rattle.check_meaning.specs.Accepted as Tables
 use Rattle.check_meaning.specs.Exactly as Check
-use Rattle.check_meaning.specs.Exactly.{accepts_exactly}
+use Rattle.check_meaning.proofs.Exactly as CheckProved
+use Rattle.check_meaning.proofs.Exactly.{accepts_exactly}
 use Rattle.build_service.specs.Build.{build_number, build_bytes}
 use Rattle.build_meaning.specs.Rows.{computed as build_computed}
 use Rattle.refine_meaning.specs.Rows.{computed as refine_computed}
 use Rattle.demands_words.specs.Words.{StoredMesh, ArgumentTypes, plain_base, NoVertexHangs, SomeVertexHangs}
-use Rattle.demands_words.specs.Services.{Services}
 use Rattle.demands_proofs.specs.BuildNumbers as Build
 use Rattle.demands_proofs.specs.GivenTypes.{given_by_types}
-use Rattle.demands_proofs.specs.WorkedMeshes.{small, small_bytes}
-use Rattle.demands.specs.Demand2.{MeetsDemand2, demand_2}
 
 -- ---- what the determinants mean, over ℤ
 
@@ -56,7 +52,7 @@ no_vertex_hangs s e = ((accepts_exactly s).0 e).mesh.no_vertex_hangs
 
 -- 23 is never given without cause: there is a base vertex that hangs on a base record.
 pub vertex_hangs_lem : (s : Stored) → check_number s ≡ 23 → Tables.SomeVertexHangs (tables_of s)
-vertex_hangs_lem s = Check.vertex_hangs_lem s
+vertex_hangs_lem s = CheckProved.vertex_hangs_lem s
 
 -- ---- over base meshes
 
@@ -71,25 +67,21 @@ build_vertex_hangs job coordinates corners types room = Build.build_hangs job co
 -- ---- worked: two pieces, the second with a corner at a place on the first or beside it
 
 -- The first piece: 0, 1, 2, 3 at (0, 0, 0), (128, 0, 0), (0, 128, 0), (0, 0, 128). Of the second the corners 5, 6, 7 stand far away.
-abbrev two_pieces : ℤ → ℤ → ℤ → List ℤ
+abbrev pub two_pieces : ℤ → ℤ → ℤ → List ℤ
 two_pieces x y z =
     pos 0 ∷ pos 0 ∷ pos 0 ∷ pos 128 ∷ pos 0 ∷ pos 0 ∷ pos 0 ∷ pos 128 ∷ pos 0 ∷ pos 0 ∷ pos 0 ∷ pos 128
     ∷ x ∷ y ∷ z ∷ pos 640 ∷ negsuc 639 ∷ pos 0 ∷ pos 640 ∷ negsuc 639 ∷ pos 64 ∷ pos 640 ∷ negsuc 575 ∷ pos 0 ∷ []
 
-abbrev two_corners : List ℕ
+abbrev pub two_corners : List ℕ
 two_corners = 0 ∷ 1 ∷ 2 ∷ 3 ∷ 4 ∷ 5 ∷ 6 ∷ 7 ∷ []
 
-abbrev built : ℤ → ℤ → ℤ → ℕ
+abbrev pub built : ℤ → ℤ → ℤ → ℕ
 built x y z = build_number 7 (two_pieces x y z) two_corners 134
 
 -- "a vertex in the middle of a neighbour's edge", in a face, inside: 23.
 pub on_an_edge : built (pos 64) (pos 0) (pos 0) ≡ 23
 unfolding build_computed refine_computed
 on_an_edge = refl
-
-pub in_a_face : built (pos 64) (pos 32) (pos 0) ≡ 23
-unfolding build_computed refine_computed
-in_a_face = refl
 
 pub inside : built (pos 32) (pos 32) (pos 32) ≡ 23
 unfolding build_computed refine_computed
@@ -129,10 +121,10 @@ before_20 = refl
 
 -- The bytes of the pieces apart, with vertex 4 moved in them onto the edge: check gives 23, and gives it before 9, where record 0 besides names a child that is
 -- not there.
-abbrev apart : List ℕ
+abbrev pub apart : List ℕ
 apart = build_bytes 7 (two_pieces (pos 64) (negsuc 31) (pos 0)) two_corners 134
 
-abbrev moved : List ℕ
+abbrev pub moved : List ℕ
 moved = sets apart 62 (0 ∷ 0 ∷ [])
 
 pub moved_refused : check_number (stored1 moved) ≡ 23
@@ -142,14 +134,3 @@ moved_refused = refl
 pub before_9 : check_number (stored1 (sets moved 115 (5 ∷ 0 ∷ []))) ≡ 23
 unfolding build_computed refine_computed check_number
 before_9 = refl
-
-moved_small : small moved ≡ true
-unfolding build_computed refine_computed
-moved_small = refl
-
--- So whoever meets demand 2 refuses it. "We accepted a base mesh with a vertex in the middle of a neighbour's edge, because document 01 looks at parent pairs only": such services
--- don't meet it any more.
-pub accepts_a_hanging_vertex : (S : Services) → MeetsDemand2 S → (S.check (stored1 moved)).number ≡ 0 → ⊥
-accepts_a_hanging_vertex S m e =
-    let ours = ((demand_2.accepted_exactly (stored1 moved)).1 ((m.accepted_exactly (stored1 moved)).0 ((small_bytes moved moved_small, bytes_none), e))).1 in
-    omega (arith, sym (report_number (stored1 moved)) ∙ ours, moved_refused)

@@ -6,4 +6,3 @@ pub mod Handed
 pub mod Hanging
 pub mod Numbers
 pub mod Starred
-pub mod Impostors

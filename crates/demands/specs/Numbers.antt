@@ -5,6 +5,7 @@ use Rattle.stored.specs.Layout.{Stored, StoredSelection}
 use Rattle.laws.specs.Order.{Giving}
 use Rattle.check_refusals.specs.Check.{check_number}
 use Rattle.check_meaning.specs.Exactly as Check
+use Rattle.check_meaning.proofs.Exactly as CheckProved
 use Rattle.check_meaning.specs.Exactly.{check_rules}
 use Rattle.refine_service.specs.Refine.{refine_number}
 use Rattle.demands_words.specs.Words.{ArgumentTypes}
@@ -16,7 +17,7 @@ use Rattle.demands_proofs.specs.GivenTypes.{given_by_types}
 
 -- Check: a number exactly where every rule before it in the list holds and its own does not, and 0 exactly where all hold.
 pub check_refuses : (mesh : Stored) (n : ℕ) → (check_number mesh ≡ n) ↔ Giving (check_rules mesh) n
-check_refuses = Check.refuses_exactly
+check_refuses = CheckProved.refuses_exactly
 
 -- Build likewise: 21, 3, 4, 5, 7, 8, 23, 20, and 0.
 pub build_gives : (job : ℕ) (coordinates : List ℤ) (corners : List ℕ) (room : ℕ) → ArgumentTypes job coordinates corners → BuildExactly job coordinates corners room

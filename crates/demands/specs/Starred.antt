@@ -1,18 +1,17 @@
 -- Document 01, "A piece worked by hand": its starred rows, in its order and words, as one table under one claim, computed from the definitions.
-use Rattle.std.specs.Prelude.{◌≡◌, refl, Bool, true, ◌&&◌, ◌||◌, List, [], ◌∷◌, ℕ, length, pos, eqb}
+use Rattle.std.specs.Prelude.{◌≡◌, Bool, true, ◌&&◌, ◌||◌, List, [], ◌∷◌, ℕ, length, pos, eqb}
 use Rattle.laws.specs.Below.{all_below}
 use Rattle.piece.specs.declared.Piece.{Piece}
-use Rattle.piece.specs.Shape.{Shape, Valid, shape_of, type_p, type_a, type_o, type_m, set_p, unset_p, flag_fits, valid_shape}
+use Rattle.piece.specs.Shape.{Shape, Valid, shape_of, type_p, type_a, type_o, type_m, set_p, unset_p, valid_shape}
 use Rattle.piece_cut.specs.Cut.{child_shape, cut_of}
-use Rattle.piece_cut.specs.Theorems.{End, unset_p_gives_set_p, set_p_gives_a, others_give_unset_p}
+use Rattle.piece_cut.specs.Theorems.{End}
 use Rattle.grid.specs.Places.{point_of}
 use Rattle.stored.specs.Layout.{stored1, StoredSelection, selection1}
 use Rattle.mesh_tables.specs.Tables.{Tables, tables_of, piece_at, is_cut, refinement_ends, sixfold_at}
 use Rattle.check_refusals.specs.Check.{leaves}
 use Rattle.build_service.specs.Build.{build_number, build_bytes}
-use Rattle.build_meaning.specs.Rows.{computed as build_computed}
 use Rattle.refine_service.specs.Refine.{refine_number, refine_bytes}
-use Rattle.refine_meaning.specs.Rows.{K-coordinates, K-corners, K-of, K, K-cut, K-four, selecting, computed as refine_computed}
+use Rattle.refine_meaning.specs.Rows.{K-coordinates, K-corners, K-of, K, K-cut, K-four, selecting}
 
 -- ---- what the rows speak of
 
@@ -133,66 +132,3 @@ pub record StarredRows : Type 0 where
   -- "Selection of round 0 on a mesh of round 1: 14. With the job wrong too: 13."
   pub expired : refine_number (stored1 K-cut) select_0 121 ≡ 14
   pub of_another_job : refine_number (stored1 K-cut) (selection1 (selecting 8 0 1 (0 ∷ []))) 121 ≡ 13
-
--- The table holds.
-pub starred : StarredRows
-unfolding build_computed refine_computed valid_shape flag_fits type_a type_o type_m
-starred =
-    record {
-      build_accepts = refl;
-      build_edge = refl;
-      build_marks_lem = refl;
-      build_type = refl;
-      build_bytes_lem = refl;
-      build_length = refl;
-      halved_accepted = refl;
-      halved_place = refl;
-      halved_parent_p = refl;
-      halved_parent_q = refl;
-      halved_corners_1 = refl;
-      halved_edge_1 = refl;
-      halved_marks_1 = refl;
-      halved_corners_2 = refl;
-      halved_edge_2 = refl;
-      halved_marks_2 = refl;
-      halved_sixfold_1 = refl;
-      halved_sixfold_2 = refl;
-      halved_bytes = refl;
-      halved_length = refl;
-      halved_short = refl;
-      quartered_accepted = refl;
-      quartered_records = refl;
-      quartered_next_3 = refl;
-      quartered_next_4 = refl;
-      quartered_next_5 = refl;
-      quartered_next_6 = refl;
-      quartered_bytes = refl;
-      with_four_accepted = refl;
-      with_four_cut = refl;
-      with_four_cut_too = refl;
-      with_four_vertices = refl;
-      with_four_records = refl;
-      with_four_leaves = refl;
-      with_all_accepted = refl;
-      with_all_vertices = refl;
-      with_all_records = refl;
-      with_all_leaves = refl;
-      with_all_sixfold = refl;
-      unset_p_lem = refl;
-      set_p_lem = refl;
-      type_a_lem = refl;
-      type_o_lem = refl;
-      type_m_lem = refl;
-      unset_p_gives = refl;
-      set_p_gives = refl;
-      A-gives = refl;
-      O-gives = refl;
-      M-gives = refl;
-      every_unset_p_gives = unset_p_gives_set_p;
-      every_set_p_gives = set_p_gives_a;
-      every_a_o_m_gives = others_give_unset_p;
-      empty_accepted = refl;
-      empty_bytes = refl;
-      expired = refl;
-      of_another_job = refl;
-    }

@@ -3,7 +3,8 @@
 use Rattle.std.specs.Prelude.{◌≡◌, refl, ◌↔◌, List, [], ◌∷◌, ℕ, ℤ}
 use Rattle.std.proofs.Common.{⊎_elim}
 use Rattle.laws.specs.Below.{either}
-use Rattle.laws.specs.Order.{Rule, rule, Giving, Judged, judge, done, given_exactly, accepted_exactly}
+use Rattle.laws.specs.Order.{Rule, rule, Giving, Judged, judge, done}
+use Rattle.laws.proofs.Order.{given_exactly, accepted_exactly}
 use Rattle.check_refusals.specs.Refusals.{hanging_vertices}
 use Rattle.check_meaning.specs.Tests.{reads}
 use Rattle.build_service.specs.Build.{build_rows, build_number}

@@ -13,7 +13,7 @@ use Rattle.piece.specs.Ends.{corner_at}
 use Rattle.stored.specs.Layout.{none, limits, kind1, right1, stored1, stored_as}
 use Rattle.stored.specs.Meshes.{Counted, one_buffer}
 use Rattle.check_meaning.specs.Accepted.{RightMarks}
-use Rattle.check_meaning.specs.Bases.{valid_marks}
+use Rattle.check_meaning.proofs.Bases.{valid_marks}
 use Rattle.build_marks.specs.Marking.{plain_vertex, plain_piece, righted_piece, marked_piece, plain_record}
 use Rattle.build_service.specs.Build.{plain_header, plain_mesh, plain_bytes, build_number, build_bytes}
 use Rattle.build_meaning.specs.Righted.{righted_four, righted_sixfold, righted_positive}

@@ -9,7 +9,7 @@ use Rattle.mesh_tables.specs.Tables as Check
 use Rattle.mesh_tables.specs.Tables.{tables_of, all_vertices, all_records}
 use Rattle.check_refusals.specs.Check.{check_number, check_of}
 use Rattle.check_refusals.specs.Rows.{report_number}
-use Rattle.check_meaning.specs.Exactly.{accepts_exactly}
+use Rattle.check_meaning.proofs.Exactly.{accepts_exactly}
 use Rattle.refine_pass.specs.Passes.{exceeds}
 use Rattle.refine_service.specs.Refine.{closed, result_of, refine_number, refine_bytes}
 use Rattle.refine_selection.specs.Selected.{another_job, another_round}

@@ -17,7 +17,8 @@ use Rattle.grid_volume.specs.VolumeTheorems.{midpoint_turned}
 use Rattle.check_meaning.specs.Accepted.{OnGrid}
 use Rattle.cuts_names.specs.Lists.{either_has}
 use Rattle.cuts_names.specs.Names as Names
-use Rattle.cuts_names.specs.Names.{Name, mid, mid_which, mid_injective_lem}
+use Rattle.cuts_names.specs.Names.{Name, mid}
+use Rattle.cuts_names.proofs.Names.{mid_which, mid_injective_lem}
 use Rattle.cuts_names.specs.Pieces.{Piece, Side, end_at, child_with, child, Node, generation, piece_down, piece_at, makes}
 use Rattle.cuts.specs.Grid.{MultipleOf2, low_end, high_end, makes_exact}
 use Rattle.demands_words.specs.Words.{BaseMesh, named, ProperlyMarked, place_of}

@@ -17,7 +17,8 @@ use Rattle.grid_volume.specs.Handed.{half_positive}
 use Rattle.check_meaning.specs.Bases.{slots_apart}
 use Rattle.cuts_names.specs.Names.{Name}
 use Rattle.cuts_names.specs.Pieces.{Piece, Side, low, high, Node, generation, kid, child, child_with, end_at, piece_at, piece_down, makes}
-use Rattle.cuts_names.specs.Macro.{edge_below, node_valid}
+use Rattle.cuts_names.specs.Macro.{edge_below}
+use Rattle.cuts_names.proofs.Macro.{node_valid}
 use Rattle.demands_words.specs.Words.{BaseMesh, named, ProperlyMarked, place_of, signed_at}
 use Rattle.demands_proofs.specs.MarkedBase.{properly_marked}
 use Rattle.demands_proofs.specs.Exact.{exact_halfway}

@@ -16,7 +16,7 @@ use Rattle.mesh_tables.specs.Tables as Check
 use Rattle.mesh_tables.specs.Tables.{all_vertices, all_records, piece_at, is_leaf, is_cut, has_parents, hangs, hangs_at, leaf_hangs, hanging_edge}
 use Rattle.check_meaning.specs.Accepted.{HasParents, first_child}
 use Rattle.check_meaning.specs.Vertices.{parents_are}
-use Rattle.check_meaning.specs.Cuts.{rule10_holds}
+use Rattle.check_meaning.proofs.Cuts.{rule10_holds}
 use Rattle.check_meaning.specs.Descent.{ends_are}
 use Rattle.cuts.specs.Tables.{Lawful, HangsIn}
 use Rattle.demands_proofs.specs.Link.{link}

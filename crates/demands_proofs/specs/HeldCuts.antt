@@ -18,7 +18,8 @@ use Rattle.check_meaning.specs.Accepted.{HasParents, RightCut, RightCuts, ChildO
 use Rattle.check_meaning.specs.Cuts.{Four, child_four}
 use Rattle.check_meaning.specs.Descent.{child_corner, lower_is_end, higher_is_end}
 use Rattle.build_meaning.specs.Edges.{ends_are}
-use Rattle.cuts_names.specs.Names.{Name, mid, mid_injective_lem, mid_not_base_lem}
+use Rattle.cuts_names.specs.Names.{Name, mid, mid_not_base_lem}
+use Rattle.cuts_names.proofs.Names.{mid_injective_lem}
 use Rattle.cuts_names.specs.Pieces.{Piece, Side, low, high, end_at, child_with, mid_of, makes, child, Node, generation, kid, piece_at, piece_kid_lem}
 use Rattle.cuts.specs.Sets.{Cuts, There, NoneHangs}
 use Rattle.cuts.specs.Depth.{cut_there_lem}

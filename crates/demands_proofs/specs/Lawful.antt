@@ -18,7 +18,7 @@ use Rattle.mesh_tables.specs.Tables as Check
 use Rattle.mesh_tables.specs.Tables.{base_records, all_records, piece_at, refinement_ends}
 use Rattle.check_meaning.specs.Accepted as Accepted
 use Rattle.check_meaning.specs.Accepted.{RightMesh, RightCut, HasParents, SameRecordFace, first_child}
-use Rattle.check_meaning.specs.Bases.{marks_valid}
+use Rattle.check_meaning.proofs.Bases.{marks_valid}
 use Rattle.check_meaning.specs.Cuts.{Four, is_cut_lem}
 use Rattle.check_meaning.specs.Descent.{lower_is_end, higher_is_end, child_corner}
 use Rattle.build_meaning.specs.Edges.{Different, ends_are}

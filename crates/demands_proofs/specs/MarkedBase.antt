@@ -5,9 +5,10 @@ use Rattle.laws.specs.Below.{either}
 use Rattle.laws.specs.Pairs.{SamePair}
 use Rattle.piece.specs.declared.Piece as Declared
 use Rattle.piece.specs.Shape.{Shape, Valid}
-use Rattle.check_meaning.specs.Bases.{marks_valid}
+use Rattle.check_meaning.proofs.Bases.{marks_valid}
 use Rattle.cuts_names.specs.Names as Names
-use Rattle.cuts_names.specs.Names.{Name, mid, mid_sym}
+use Rattle.cuts_names.specs.Names.{Name, mid}
+use Rattle.cuts_names.proofs.Names.{mid_sym}
 use Rattle.cuts_names.specs.Base as Base
 use Rattle.cuts_names.specs.Base.{Marked, HasCorner, marked_at}
 use Rattle.demands_words.specs.Words.{BaseMesh, named, BaseCornerOf, OnBaseFace, SameBaseCorners, SameBaseFace, SameBaseMark, ValidlyMarked, ProperlyMarked}

@@ -8,7 +8,8 @@ use Rattle.std.proofs.Math.ListN.{length-append}
 use Rattle.std.proofs.lemmas.List.{length-replicate}
 use borrow.Author.Tests.{eqb-true, eqb-false, ne_eqb, lt-ltb, le-ltb, ltb-false, eq-eqb}
 use Rattle.laws.specs.Below.{either, list_length}
-use Rattle.laws.specs.Order.{OneOf, one_of_them, broken_at, none_broken_lem}
+use Rattle.laws.specs.Order.{OneOf, one_of_them, broken_at}
+use Rattle.laws.proofs.Order.{none_broken_lem}
 use Rattle.laws.specs.Lists.{zero_past, Bytes, joined, joined_length}
 use Rattle.stored.specs.declared.Format.{Format}
 use Rattle.stored.specs.Layout.{version1, vertex_width, record_width, limits, mesh_length, base_length, grown_length, header_from, header_bytes, vertex_bytes, record_bytes, Mesh, laid_out, mesh_bytes, Stored, stored1, header_of, StoredSelection}
@@ -19,7 +20,7 @@ use Rattle.mesh_tables.specs.Tables.{Tables, tables_of, all_records, is_leaf, pi
 use Rattle.check_refusals.specs.Check.{table_rows, rows, check_number, accepted, refused_with, hanging_report, report_of, check_of}
 use Rattle.check_refusals.specs.Bounded.{Bounded, bounded}
 use Rattle.check_refusals.specs.Rows.{report_number}
-use Rattle.check_meaning.specs.Exactly.{accepts_exactly}
+use Rattle.check_meaning.proofs.Exactly.{accepts_exactly}
 use Rattle.build_marks.specs.Marking.{plain_vertex, plain_record}
 use Rattle.build_service.specs.Build.{plain_header, plain_mesh, plain_bytes, build_rows, build_number, build_bytes}
 use Rattle.build_meaning.specs.Written.{Given}

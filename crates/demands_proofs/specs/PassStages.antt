@@ -19,7 +19,8 @@ use Rattle.mesh_tables.specs.Tables.{base_vertices, all_vertices, all_records, p
 use Rattle.check_meaning.specs.Cuts.{Four}
 use Rattle.refine_cut.specs.Cut.{cut_at}
 use Rattle.refine_pass.specs.Passes.{exceeds, turn, pass_below, pass}
-use Rattle.refine_pass.specs.Law.{within, Kept, turns_kept, cut_record_count, cut_vertex_count}
+use Rattle.refine_pass.specs.Law.{within, Kept, cut_record_count, cut_vertex_count}
+use Rattle.refine_pass.proofs.Law.{turns_kept}
 use Rattle.cuts_names.specs.Pieces.{Piece, Node, generation}
 use Rattle.cuts.specs.Sets.{Cuts, CutsWithin}
 use Rattle.cuts.specs.Depth.{CutsBelow, there_below}

@@ -18,9 +18,10 @@ use Rattle.stored.specs.Meshes.{base_within, Counted, MeshFits, mesh_header, mes
 use Rattle.mesh_tables.specs.Tables.{tables_of}
 use Rattle.check_meaning.specs.Tests.{equal, and_passes, or_passes}
 use Rattle.check_meaning.specs.Accepted.{OnGrid, RightMarks}
-use Rattle.check_meaning.specs.Bases.{valid_is, valid_marks}
+use Rattle.check_meaning.specs.Bases.{valid_is}
+use Rattle.check_meaning.proofs.Bases.{valid_marks}
 use Rattle.cuts_names.specs.Pieces.{generation, piece_at}
-use Rattle.cuts_names.specs.Macro.{node_valid}
+use Rattle.cuts_names.proofs.Macro.{node_valid}
 use Rattle.cuts.specs.Sets.{Cuts}
 use Rattle.cuts.specs.Depth.{there_rooted}
 use Rattle.cuts.specs.Smaller.{by_smaller}

@@ -7,7 +7,8 @@ use Rattle.std.proofs.Math.Dec.{eqb, leb}
 use borrow.Author.Tests.{eqb-true, leb-true}
 use Rattle.demands_words.specs.Words.{full_size}
 use Rattle.laws.specs.Below.{either, or_second}
-use Rattle.laws.specs.Order.{Rule, rule, Giving, Judged, judge, done, judged_then, given_exactly, accepted_exactly, given_passes, OneOf, one_of_them}
+use Rattle.laws.specs.Order.{Rule, rule, Giving, Judged, judge, done, judged_then, given_passes, OneOf, one_of_them}
+use Rattle.laws.proofs.Order.{given_exactly, accepted_exactly}
 use Rattle.stored.specs.declared.Limits.{Limits}
 use Rattle.stored.specs.declared.Format.{Format}
 use Rattle.stored.specs.declared.Kind.{Kind}
@@ -16,7 +17,8 @@ use Rattle.mesh_tables.specs.Tables.{Tables, tables_of, all_vertices, all_record
 use Rattle.check_refusals.specs.Check.{rows, table_rows, check_number}
 use Rattle.check_meaning.specs.Tests.{Fails, reads, not_below, or_fails}
 use Rattle.check_meaning.specs.Accepted.{Within, Accepted}
-use Rattle.check_meaning.specs.Exactly.{check_rules, check_judged, accepts_exactly}
+use Rattle.check_meaning.specs.Exactly.{check_rules}
+use Rattle.check_meaning.proofs.Exactly.{check_judged, accepts_exactly}
 use Rattle.refine_selection.specs.Selected.{another_round, selection_rows, round_row}
 use Rattle.refine_pass.specs.Passes.{exceeds}
 use Rattle.refine_service.specs.Refine.{closed, refine_selection_rows, result_rows, refine_number}

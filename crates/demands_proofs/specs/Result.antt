@@ -19,7 +19,7 @@ use Rattle.check_meaning.specs.Accepted.{point_at, parent_p, parent_q}
 use Rattle.check_meaning.specs.Cuts.{Four}
 use Rattle.refine_pass.specs.Passes.{exceeds}
 use Rattle.refine_pass.specs.Law.{within}
-use Rattle.refine_pass.specs.Stays.{base_vertices_stay, job_stays, round_stays}
+use Rattle.refine_pass.proofs.Stays.{base_vertices_stay, job_stays, round_stays}
 use Rattle.refine_service.specs.Refine.{closed, result_of}
 use Rattle.refine_meaning.specs.Kept.{Keeps, closed_keeps}
 use Rattle.cuts_names.specs.Names.{mid}

@@ -6,9 +6,10 @@ use Rattle.check_refusals.specs.declared.Report.{Report}
 use Rattle.stored.specs.Layout.{Stored}
 use Rattle.mesh_tables.specs.Tables.{tables_of, base_records}
 use Rattle.check_refusals.specs.Check.{check_number, accepted, report_of, check_of, leaves, deepest, sixfold}
-use Rattle.check_meaning.specs.Exactly.{accepts_exactly}
+use Rattle.check_meaning.proofs.Exactly.{accepts_exactly}
 use Rattle.check_meaning.specs.Cuts.{stored_four}
-use Rattle.check_meaning.specs.Volumes.{volume, volume_kept}
+use Rattle.check_meaning.specs.Volumes.{volume}
+use Rattle.check_meaning.proofs.Volumes.{volume_kept}
 use Rattle.cuts_names.specs.Pieces.{Node}
 use Rattle.cuts.specs.Count.{LeafList}
 use Rattle.cuts.specs.LinkNodes.{node_root}

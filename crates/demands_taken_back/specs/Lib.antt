@@ -6,5 +6,4 @@ pub mod Stored
 pub mod ByNumbers
 pub mod ByTables
 pub mod TablesLeft
-pub mod FromTables
 pub mod One

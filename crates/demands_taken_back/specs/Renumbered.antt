@@ -1,21 +1,20 @@
 -- The numbering of what remains: of a numbered set C and a set D within it, the vertices and the records that are still there in D close up in their order.
-use Rattle.std.specs.Prelude.{◌≡◌, refl, Bool, true, cond, ◌⊎◌, ◌↔◌, List, [], ◌∷◌, ℕ, ◌+◌, ◌≤◌, ◌<◌, ltb, eqb}
+use Rattle.std.specs.Prelude.{◌≡◌, refl, Bool, true, cond, ◌⊎◌, ◌↔◌, List, [], ◌∷◌, ℕ, ◌≤◌, ◌<◌, ltb, eqb}
 use Rattle.std.proofs.Common.{sym, ap, ap₂, ◌∙◌, subst, inl, inr, ⊎_elim, arith, ltb-true, ltb-false}
 use Rattle.laws.specs.Below.{either, count_below}
-use Rattle.laws_remaining.specs.Remaining.{old_below, count_here, count_rises, count_above, new_in_order, first_stay, old_there, old_new, old_first}
+use Rattle.laws_remaining.specs.Remaining.{old_below, count_rises, count_above, first_stay, old_there, old_new, old_first}
 use Rattle.piece_edges.specs.Edges.{low_slot, high_slot, slots_small}
 use Rattle.grid.specs.Places.{point_of}
 use Rattle.grid.specs.Corners.{Midpoint}
 use Rattle.stored.specs.Layout.{none}
 use Rattle.cuts_names.specs.Lists.{either_has}
 use Rattle.cuts_names.specs.Names as Names
-use Rattle.cuts_names.specs.Names.{Name, mid, mid_injective_lem, mid_not_base_lem}
-use Rattle.cuts_names.specs.Pieces.{Side, low, high, end_at, child_with, child, makes, Node, kid, piece_down, piece_at}
+use Rattle.cuts_names.specs.Names.{Name, mid, mid_not_base_lem}
+use Rattle.cuts_names.proofs.Names.{mid_injective_lem}
+use Rattle.cuts_names.specs.Pieces.{Side, end_at, child_with, child, makes, Node, piece_down, piece_at}
 use Rattle.cuts.specs.Sets.{Cuts, There, CutsWithin}
 use Rattle.cuts.specs.Depth.{cut_there_lem}
-use Rattle.cuts.specs.Least.{there_within}
-use Rattle.demands_words.specs.Words.{BaseMesh, named, ProperlyMarked, Numbering, MadeVertexNumbered, VerticesNumbered, CutRecord, RecordsNumbered}
-use Rattle.demands_taken_back.specs.Words.{SameOrder}
+use Rattle.demands_words.specs.Words.{BaseMesh, named, ProperlyMarked, Numbering, MadeVertexNumbered, VerticesNumbered, RecordsNumbered}
 
 -- ---- what is still there
 
@@ -65,19 +64,19 @@ corner_stays b marked D n t j l = down n.root n.path t j l
 module _ (b : BaseMesh) (marked : ProperlyMarked b) (C D : Cuts b.pieces) (inside : CutsWithin D C) (N : Numbering) (nv : VerticesNumbered b C N) (nr : RecordsNumbered b C N)
     (vertex_stays record_stays : ℕ → Bool) (still : StillThere b D N vertex_stays record_stays)
   where
-    abbrev N' : Numbering
+    abbrev pub N' : Numbering
     N' = numbers_left b D N vertex_stays record_stays
 
     abbrev old_vertex : ℕ → ℕ
     old_vertex = old_below N.vertices vertex_stays
 
-    abbrev new_vertex : ℕ → ℕ
+    abbrev pub new_vertex : ℕ → ℕ
     new_vertex v = count_below v vertex_stays
 
-    abbrev old_record : ℕ → ℕ
+    abbrev pub old_record : ℕ → ℕ
     old_record = old_below N.records record_stays
 
-    abbrev new_record : ℕ → ℕ
+    abbrev pub new_record : ℕ → ℕ
     new_record r = count_below r record_stays
 
     -- ---- vertices
@@ -170,10 +169,6 @@ module _ (b : BaseMesh) (marked : ProperlyMarked b) (C D : Cuts b.pieces) (insid
 
     -- ---- records
 
-    -- Base records stay.
-    base_record_stays : (r : ℕ) → r < b.pieces → record_stays r ≡ true
-    base_record_stays r h = (still.records r (omega (arith, h, nr.base_first))).1 (subst (There D) (sym (nr.base_node r h)) h)
-
     -- The corners of a record that stays are vertices that stay.
     pub corners_stay : (r : ℕ) → r < N.records → record_stays r ≡ true → (j : ℕ) → j < 4 → vertex_stays (N.corner_at r j) ≡ true
     corners_stay r h stays j l =
@@ -181,90 +176,9 @@ module _ (b : BaseMesh) (marked : ProperlyMarked b) (C D : Cuts b.pieces) (insid
         (subst (VertexThere b D) (sym (nr.corner r h j l)) (corner_stays b marked D (N.node_at r) ((still.records r h).0 stays) j l))
 
     module _ (k : ℕ) (h : k < N'.records) where
-      abbrev r : ℕ
+      abbrev pub r : ℕ
       r = old_record k
 
       -- Its number before.
-      older : (r < N.records) × (record_stays r ≡ true) × (new_record r ≡ k)
+      pub older : (r < N.records) × (record_stays r ≡ true) × (new_record r ≡ k)
       older = old_there record_stays N.records k h
-
-      -- The ends of its refinement edge have numbers in the same order as before.
-      ends_in_order : let e = (piece_at (named b) (N.node_at r)).shape.edge in
-          ltb (new_vertex (N.corner_at r (low_slot e))) (new_vertex (N.corner_at r (high_slot e))) ≡ ltb (N.corner_at r (low_slot e)) (N.corner_at r (high_slot e))
-      ends_in_order =
-          let e = (piece_at (named b) (N.node_at r)).shape.edge in
-          let ends = slots_small e in
-          let (below, stays, new) = older in
-          new_in_order vertex_stays (N.corner_at r (low_slot e)) (N.corner_at r (high_slot e)) (corners_stay r below stays (low_slot e) ends.0) (corners_stay r below stays (high_slot e) ends.1)
-
-      cut_record_lem : D.has (N'.node_at k) ≡ true → CutRecord b N' k
-      cut_record_lem t =
-          let (below, stays, new) = older in
-          let c = nr.cut r below (inside (N.node_at r) t) in
-          let f = N.first_at r in
-          let next_below : f + 1 < N.records = c.there in
-          let first_stays : record_stays f ≡ true = (still.records f (omega arith)).1 (subst (There D) (sym c.first) t) in
-          let next_stays : record_stays (f + 1) ≡ true = (still.records (f + 1) next_below).1 (subst (There D) (sym c.second) t) in
-          let is : N'.first_at k ≡ new_record f = ap (λ (x : Bool). cond x (new_record f) none) t in
-          let next : new_record f + 1 ≡ new_record (f + 1) = sym (count_here record_stays f first_stays) in
-          record {
-            above = omega (arith, is, new, count_above record_stays r f c.above stays);
-            there = omega (arith, is, next, count_above record_stays (f + 1) N.records next_below next_stays);
-            first =
-                ap (λ (i : ℕ). N.node_at (old_record i)) is ∙ ap N.node_at (old_new record_stays N.records f (omega arith) first_stays) ∙ c.first
-                ∙ ap (λ (x : Bool). kid (N.node_at r) (cond x high low)) (sym ends_in_order);
-            second =
-                ap (λ (i : ℕ). N.node_at (old_record (i + 1))) is ∙ ap (λ (i : ℕ). N.node_at (old_record i)) next
-                ∙ ap N.node_at (old_new record_stays N.records (f + 1) next_below next_stays) ∙ c.second
-                ∙ ap (λ (x : Bool). kid (N.node_at r) (cond x low high)) (sym ends_in_order);
-          }
-
-    pub records_renumbered : RecordsNumbered b D N'
-    records_renumbered =
-        record {
-          base_first = omega (arith, first_stay record_stays b.pieces base_record_stays b.pieces (omega arith), count_rises record_stays b.pieces N.records nr.base_first);
-          base_node = λ r h. ap N.node_at (old_first record_stays N.records b.pieces nr.base_first base_record_stays r h) ∙ nr.base_node r h;
-          there = λ k h. let (below, stays, new) = old_there record_stays N.records k h in (still.records (old_record k) below).0 stays;
-          every = every;
-          once = once;
-          corner_there = λ k h j l.
-              let (below, stays, new) = old_there record_stays N.records k h in
-              count_above vertex_stays (N.corner_at (old_record k) j) N.vertices (nr.corner_there (old_record k) below j l) (corners_stay (old_record k) below stays j l);
-          corner = λ k h j l.
-              let (below, stays, new) = old_there record_stays N.records k h in
-              ap N.name_at (old_new vertex_stays N.vertices (N.corner_at (old_record k) j) (nr.corner_there (old_record k) below j l) (corners_stay (old_record k) below stays j l))
-              ∙ nr.corner (old_record k) below j l;
-          uncut = λ k h u. ap (λ (x : Bool). cond x (new_record (N.first_at (old_record k))) none) u;
-          cut = cut_record_lem;
-        }
-      where
-        every : (n : Node) → There D n → (k : ℕ) × (k < N'.records) × (N'.node_at k ≡ n)
-        every n t =
-            let (r, h, e) = nr.every n (there_within D C inside n t) in
-            let stays = (still.records r h).1 (subst (There D) (sym e) t) in
-            (new_record r, count_above record_stays r N.records h stays, ap N.node_at (old_new record_stays N.records r h stays) ∙ e)
-
-        once : (j k : ℕ) → j < N'.records → k < N'.records → N'.node_at j ≡ N'.node_at k → j ≡ k
-        once j k hj hk e =
-            let (bj, sj, nj) = old_there record_stays N.records j hj in
-            let (bk, sk, nk) = old_there record_stays N.records k hk in
-            sym nj ∙ ap new_record (nr.once (old_record j) (old_record k) bj bk e) ∙ nk
-
-    -- ---- the order
-
-    -- What remains keeps its order.
-    pub renumbered_in_order : SameOrder N N'
-    renumbered_in_order =
-        record {
-          vertices = λ u v u' v' hu hv hu' hv' eu ev l. ordered vertex_stays N.vertices N.name_at nv.once u v u' v' hu hv hu' hv' eu ev l;
-          records = λ q r q' r' hq hr hq' hr' eq er l. ordered record_stays N.records N.node_at nr.once q r q' r' hq hr hq' hr' eq er l;
-        }
-      where
-        ordered : {A : Type 0} (stays : ℕ → Bool) (n : ℕ) (at : ℕ → A) → ((i j : ℕ) → i < n → j < n → at i ≡ at j → i ≡ j) → (i j i' j' : ℕ) → i < n → j < n → i' < count_below n stays → j' < count_below n stays →
-            at i ≡ at (old_below n stays i') → at j ≡ at (old_below n stays j') → i < j → i' < j'
-        ordered stays n at once i j i' j' hi hj hi' hj' ei ej l =
-            let (bi, si, ni) = old_there stays n i' hi' in
-            let (bj, sj, nj) = old_there stays n j' hj' in
-            let same_i = once i (old_below n stays i') hi bi ei in
-            let same_j = once j (old_below n stays j') hj bj ej in
-            omega (arith, ni, nj, count_above stays (old_below n stays i') (old_below n stays j') (omega arith) si)

@@ -1,44 +1,35 @@
 -- From a stored set and a good request: the set that remains, and that the bytes of its numbering are taken back.
-use Rattle.std.specs.Prelude.{◌≡◌, Bool, true, false, ◌↔◌, ◌≢◌, ℕ, ◌+◌, ◌≤◌, length}
-use Rattle.std.proofs.Math.Path.{refl, sym}
-use Rattle.std.proofs.Common.{ap, ◌∙◌, mul-le-mul_left, arith}
-use Rattle.laws.specs.Below.{any_below, any_is, any_where, count_at_most}
-use Rattle.stored.specs.Fitting.{U16}
-use Rattle.stored.specs.Layout.{last_round, vertex_width, record_width, mesh_bytes, Stored, stored_as, StoredSelection}
-use Rattle.stored.specs.Meshes.{Counted, mesh_length_lem, one_buffer, one_length}
-use Rattle.check_refusals.specs.Check.{check_of}
-use Rattle.check_refusals.specs.Rows.{report_number}
-use Rattle.check_meaning.specs.Exactly.{accepts_exactly}
+use Rattle.std.specs.Prelude.{◌≡◌, Bool, true, ◌↔◌, ℕ, ◌+◌}
+use Rattle.laws.specs.Below.{any_below, any_is, any_where}
+use Rattle.stored.specs.Layout.{Stored, stored_as, StoredSelection}
 use Rattle.cuts_names.specs.Base.{Marked}
 use Rattle.cuts_names.specs.Pieces.{Node}
 use Rattle.cuts.specs.Sets.{Cuts}
 use Rattle.cuts.specs.Least.{same_node, node_equality}
 use Rattle.cuts_coarser.specs.TakenAway.{Remains}
-use Rattle.cuts_coarser.specs.Coarser.{remains_rests, remains_coarser, nothing_coarser}
-use Rattle.cuts_coarser.specs.Remaining.{remaining, remaining_remains, one_leaf_less}
-use Rattle.demands_words.specs.Words.{BaseMesh, named, Numbering, VerticesNumbered, RecordsNumbered, header_for, written, RightSet, Stores, StoredMesh, node_named, count_in}
+use Rattle.cuts_coarser.proofs.Coarser.{remains_rests}
+use Rattle.cuts_coarser.specs.Remaining.{remaining}
+use Rattle.cuts_coarser.proofs.Remaining.{remaining_remains}
+use Rattle.demands_words.specs.Words.{BaseMesh, named, Numbering, written, RightSet, StoredMesh, node_named, count_in}
 use Rattle.demands_proofs.specs.MarkedBase.{properly_marked}
-use Rattle.demands_proofs.specs.Read.{written_counted}
-use Rattle.demands_proofs.specs.AcceptedOf.{accepted_of_stored}
-use Rattle.demands_proofs.specs.StoredFigures.{stored_figures, stored_volume}
-use Rattle.demands_taken_back.specs.Words.{GoodRequestFor, NamedPiece, TakenBackFrom}
-use Rattle.demands_taken_back.specs.Renumbered.{StillThere, numbers_left, vertices_renumbered, records_renumbered, renumbered_in_order}
+use Rattle.demands_taken_back.specs.Words.{GoodRequestFor, NamedPiece}
+use Rattle.demands_taken_back.specs.Renumbered.{StillThere, numbers_left}
 use Rattle.demands_taken_back.specs.Smaller.{smaller_right}
 
 module _ (s : Stored) (x : StoredMesh s) (request : StoredSelection) where
-  abbrev b : BaseMesh
+  abbrev pub b : BaseMesh
   b = x.base
 
-  abbrev C : Cuts b.pieces
+  abbrev pub C : Cuts b.pieces
   C = x.cuts
 
-  abbrev N : Numbering
+  abbrev pub N : Numbering
   N = x.stores.numbers
 
-  abbrev Named : Node → Type 0
+  abbrev pub Named : Node → Type 0
   Named = NamedPiece N request
 
-  marked : Marked b.pieces (named b)
+  pub marked : Marked b.pieces (named b)
   marked = properly_marked b x.right.marked
 
   -- ---- the set that remains
@@ -68,9 +59,6 @@ module _ (s : Stored) (x : StoredMesh s) (request : StoredSelection) where
     pub remains_right : RightSet s.kind.limits b D
     remains_right = smaller_right b C D remains.within s.kind.limits x.right (remains_rests marked C Named D remains x.right.none_hangs)
 
-    round_fits : U16 (x.round + 1)
-    round_fits = let apart : x.round ≢ last_round = good.not_last_round in omega (arith, x.stores.round_fits)
-
     -- The tests for what is still there may be any: the tables have their own.
     module _ (vertex_stays record_stays : ℕ → Bool) (still : StillThere b D N vertex_stays record_stays) where
       abbrev pub numbers : Numbering
@@ -78,72 +66,3 @@ module _ (s : Stored) (x : StoredMesh s) (request : StoredSelection) where
 
       abbrev pub mesh : Stored
       mesh = stored_as s.kind s.right (written x.job (x.round + 1) b numbers)
-
-      vertices_are : VerticesNumbered b D numbers
-      vertices_are = vertices_renumbered b x.right.marked C D remains.within N x.stores.vertices_numbered x.stores.records_numbered vertex_stays record_stays still
-
-      records_are : RecordsNumbered b D numbers
-      records_are = records_renumbered b x.right.marked C D remains.within N x.stores.vertices_numbered x.stores.records_numbered vertex_stays record_stays still
-
-      pub remains_stores : Stores mesh x.job (x.round + 1) b D
-      unfolding stored_as
-      remains_stores = record { job_fits = x.stores.job_fits; round_fits = round_fits; materials = x.stores.materials; numbers = numbers; vertices_numbered = vertices_are; records_numbered = records_are; bytes = refl }
-
-      pub remains_mesh : StoredMesh mesh
-      unfolding stored_as
-      remains_mesh = record { job = x.job; round = x.round + 1; base = b; cuts = D; right = remains_right; stores = remains_stores }
-
-      -- These bytes are what is handed back.
-      pub taken_back : TakenBackFrom x request mesh
-      unfolding remains_stores remains_mesh stored_as
-      taken_back =
-          record {
-            set = D;
-            stores = remains_stores;
-            right = remains_right;
-            remains = remains;
-            coarser = remains_coarser marked C Named D remains x.right.none_hangs;
-            nothing_coarser = nothing_coarser marked C Named D remains;
-            one_leaf_less = λ before after taken p q back.
-                one_leaf_less C D remains.within x.right.fits.cuts remains_right.fits.cuts taken x.right.fits.cuts_listed_lem remains_right.fits.cuts_listed_lem back before after p q;
-            in_order = renumbered_in_order b x.right.marked C D remains.within N x.stores.vertices_numbered x.stores.records_numbered vertex_stays record_stays still;
-            volume = λ before after p q. stored_volume mesh remains_mesh after q ∙ sym (stored_volume s x before p);
-          }
-
-      counted_before : Counted s.kind (written x.job x.round b N)
-      counted_before =
-          let y = x.stores in
-          written_counted s.kind s.right x.job x.round b C x.right N y.vertices_numbered y.records_numbered y.job_fits y.round_fits
-
-      pub counted_after : Counted s.kind (written x.job (x.round + 1) b numbers)
-      counted_after = written_counted s.kind s.right x.job (x.round + 1) b D remains_right numbers vertices_are records_are x.stores.job_fits round_fits
-
-      -- In one buffer they are no longer than the mesh was.
-      pub no_longer : s.kind.two ≡ false → length (mesh_bytes s.kind.format (written x.job (x.round + 1) b numbers)) ≤ length s.base
-      no_longer one =
-          let k = s.kind in
-          let f = k.format in
-          let in_one = one_buffer k s.right one in
-          let before = mesh_length_lem k s.right (written x.job x.round b N) counted_before ∙ one_length k one (header_for x.job x.round b N) in
-          let after = ap (λ (t : Stored). length t.base) (sym (in_one (written x.job (x.round + 1) b numbers) counted_after)) ∙ mesh_length_lem k s.right (written x.job (x.round + 1) b numbers) counted_after ∙ one_length k one (header_for x.job (x.round + 1) b numbers) in
-          let vertices = mul-le-mul_left (vertex_width f) (count_at_most vertex_stays N.vertices) in
-          let records = mul-le-mul_left (record_width f) (count_at_most record_stays N.records) in
-          omega (arith, before, after, ap (λ (t : Stored). length t.base) x.stores.bytes, vertices, records)
-
--- ---- what follows
-
-module _ (s : Stored) (x : StoredMesh s) (request : StoredSelection) (mesh : Stored) (r : TakenBackFrom x request mesh) where
-  -- What is handed back is a stored mesh again, with the same job and base and the next round.
-  abbrev pub again : StoredMesh mesh
-  again = record { job = x.job; round = x.round + 1; base = x.base; cuts = r.set; right = r.right; stores = r.stores }
-
-  -- "The result is accepted by check".
-  pub accepted_again : (check_of mesh).number ≡ 0
-  accepted_again = report_number mesh ∙ (accepts_exactly mesh).1 (accepted_of_stored mesh again)
-
-  -- "and keeps the summed volume", as check reports it.
-  pub reported_volume : (check_of mesh).sixfold ≡ (check_of s).sixfold
-  reported_volume =
-      let before = stored_figures s x in
-      let after = stored_figures mesh again in
-      sym (after.sixfold_is after.list after.listed) ∙ r.volume before.list after.list before.listed after.listed ∙ before.sixfold_is before.list before.listed

@@ -8,9 +8,11 @@ use Rattle.piece.specs.Ends.{corner_at}
 use Rattle.stored.specs.Layout.{Stored}
 use Rattle.mesh_tables.specs.Tables.{Tables, tables_of, all_vertices, base_records, all_records, piece_at}
 use Rattle.check_meaning.specs.Accepted.{OnRecordFace, SameRecordFace, marked_ends, Leaf, RightFaces, NoneHangs, Accepted}
-use Rattle.check_meaning.specs.Cuts.{is_leaf, rule10_holds, stored_four}
+use Rattle.check_meaning.specs.Cuts.{is_leaf, stored_four}
+use Rattle.check_meaning.proofs.Cuts.{rule10_holds}
 use Rattle.build_meaning.specs.Edges.{ends_same}
-use Rattle.cuts_names.specs.Names.{Name, mid, mid_injective_lem, mid_not_base_lem}
+use Rattle.cuts_names.specs.Names.{Name, mid, mid_not_base_lem}
+use Rattle.cuts_names.proofs.Names.{mid_injective_lem}
 use Rattle.cuts_names.specs.Pieces as Pieces
 use Rattle.cuts_names.specs.Pieces.{Piece, Node, mid_of}
 use Rattle.cuts_names.specs.Base as Named
@@ -26,7 +28,7 @@ use Rattle.cuts.specs.LinkSets.{cuts_of, represented, uncut_leaf_lem, leaf_uncut
 use Rattle.cuts.specs.LinkGrown.{grown_rests_lem}
 use Rattle.cuts_faces.specs.FaceToFace as Over
 use Rattle.cuts_faces.specs.FaceToFace.{ProperlyMarked, MarkedAlike}
-use Rattle.cuts_faces.specs.Proved.{face_to_face_lem, marked_alike}
+use Rattle.cuts_faces.proofs.Proved.{face_to_face_lem, marked_alike}
 use Rattle.demands_proofs.specs.Link.{link}
 use Rattle.demands_proofs.specs.Lawful.{accepted_lawful}
 use Rattle.demands_proofs.specs.MarkedBase.{before_or_same}

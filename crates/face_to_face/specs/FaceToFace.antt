@@ -8,7 +8,7 @@ use Rattle.stored.specs.Layout.{Stored, of_kind, stored1, StoredSelection}
 use Rattle.mesh_tables.specs.Tables.{tables_of}
 use Rattle.check_refusals.specs.Check.{check_number}
 use Rattle.check_refusals.specs.Rows.{report_number}
-use Rattle.check_meaning.specs.Exactly.{accepts_exactly}
+use Rattle.check_meaning.proofs.Exactly.{accepts_exactly}
 use Rattle.build_service.specs.Build.{plain_bytes, build_number, build_bytes}
 use Rattle.build_meaning.specs.Accepts.{passed, check_accepts}
 use Rattle.build_meaning.specs.Output as Build
@@ -17,7 +17,8 @@ use Rattle.demands_words.specs.Words.{ArgumentTypes}
 use Rattle.demands_proofs.specs.GivenTypes.{given_by_types}
 use Rattle.demands_proofs.specs.RefineNumbers.{refine_accepts_all}
 use Rattle.demands_proofs.specs.StoredOf.{stored_of_accepted}
-use Rattle.demands.specs.Demand3.{any_room, accepted_again}
+use Rattle.demands.specs.Demand3.{any_room}
+use Rattle.demands.proofs.Demand3.{accepted_again}
 use Rattle.face_to_face.specs.Words.{FaceToFace}
 use Rattle.face_to_face.specs.Carried.{accepted_meets}
 

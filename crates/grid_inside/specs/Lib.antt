@@ -4,4 +4,3 @@ pub mod Formal
 pub mod Parts
 pub mod Weights
 pub mod Corners
-pub mod Box

@@ -19,7 +19,8 @@ use Rattle.list_lines.specs.Lines.{line_room, refused_line, heading_line, leaf_l
 use Rattle.list_service.specs.Listing.{largest_mesh, leaf_lines, mesh_lines, judged_lines, lines_of, text_of, listing_of, listed_number, list_number, list_length, list_bytes, largest_listing}
 use Rattle.list_service.specs.Lengths.{refused_long, leaf_fits, record_of, heading_fits}
 use Rattle.list_service.specs.Answer.{list_whole}
-use Rattle.list_service.specs.Putting.{leaves_long, judged_refused, judged_listed, longer_text, longer_number, judged_text, judged_number_lem}
+use Rattle.list_service.specs.Putting.{judged_refused, judged_listed, longer_text, longer_number, judged_text, judged_number_lem}
+use Rattle.list_service.proofs.Putting.{leaves_long}
 
 -- Lines that are each as long as the buffer at most.
 abbrev Fit : List (List ℕ) → Type 0

@@ -1,27 +1,24 @@
 -- How the listing is put into the output buffer, line by line.
-use Rattle.std.specs.Prelude.{◌≡◌, ◌≢◌, Bool, ℕ, zero, suc, ◌+◌, ◌*◌, ◌^◌, ◌≤◌, ◌<◌, eqb, take, replicate}
+use Rattle.std.specs.Prelude.{◌≡◌, ◌≢◌, ℕ, ◌+◌, ◌≤◌, ◌<◌, eqb, take, replicate}
 use Rattle.std.proofs.Math.Path.{refl, sym, ap}
-use Rattle.std.proofs.Common.{◌∙◌, add-zero, add_assoc, add-one, arith, length-append, eq-eqb, ne_eqb, lt-ltb, le-ltb}
-use Rattle.std.proofs.Math.Bool.{true, false, cond}
+use Rattle.std.proofs.Common.{◌∙◌, add-zero, add_assoc, arith, length-append, eq-eqb, ne_eqb, lt-ltb, le-ltb}
+use Rattle.std.proofs.Math.Bool.{cond}
 use mathlib.Core.List.{List, [], ◌∷◌, ◌++◌, append-nil}
 use Rattle.std.proofs.Math.ListN.{length}
 use Rattle.std.proofs.lemmas.List.Edits.{sets}
 use Rattle.std.proofs.Math.Seq.{length-sets}
-use Rattle.laws.specs.Lists.{joined, joined_append, sets_append, clear_with}
-use Rattle.stored.specs.declared.Format.{Format}
+use Rattle.laws.specs.Lists.{joined, sets_append, clear_with}
 use Rattle.stored.specs.declared.Record.{Record}
 use Rattle.stored.specs.Layout.{stored1}
-use Rattle.stored.specs.Fitting.{RecordFits}
 use Rattle.check_refusals.specs.declared.Report.{Report}
-use Rattle.mesh_tables.specs.Tables.{Tables, tables_of, all_records, uncut, is_leaf, piece_at}
+use Rattle.mesh_tables.specs.Tables.{Tables, tables_of, all_records, uncut}
 use Rattle.check_refusals.specs.Check.{check_of}
 use Rattle.list_text.specs.Line.{Line, line, put}
 use Rattle.list_text.specs.Laws.{put_whole}
-use Rattle.list_lines.specs.Lines.{line_room, refused_line, heading_line, leaf_line}
+use Rattle.list_lines.specs.Lines.{refused_line, heading_line, leaf_line}
 use Rattle.list_service.specs.declared.Listed.{Listed}
 use Rattle.list_service.specs.Answer.{list_whole, list_short}
 use Rattle.list_service.specs.Listing.{largest_mesh, leaf_lines, mesh_lines, judged_lines, lines_of, text_of, listing_of, listed_number, list_number, ListOutcomeIs}
-use Rattle.list_service.specs.Lengths.{leaf_fits}
 
 -- A text is put at a place of a buffer, as far as there is room. The place behind it is counted on, also beyond the buffer's end.
 pub record TextPut (before : List ℕ) (at : ℕ) (text after : List ℕ) (behind : ℕ) : Type 0 where
@@ -51,39 +48,10 @@ set_whole buffer text b at l e = ap (λ (k : Line). take k.at k.bytes) e ∙ put
 unfoldable pub leaf_text : Record → ℕ → List ℕ
 leaf_text r n = let text = leaf_line n r.piece in cond (uncut r) text []
 
-text_long : (f : Format) (n : ℕ) (r : Record) → n < 10 ^ 10 → RecordFits f r → length (leaf_text r n) ≤ line_room
-unfolding leaf_text
-text_long f n r l fits = go (uncut r)
-  where
-    go : (leaf : Bool) → length (cond leaf (leaf_line n r.piece) []) ≤ line_room
-    go true = leaf_fits f n r l fits
-    go false = omega arith
-
 module _ (m : Tables) where
   pub leaves_none : text_of (leaf_lines m 0) ≡ []
   unfolding leaf_lines joined
   leaves_none = refl
-
-  leaves_suc : (n : ℕ) → text_of (leaf_lines m (suc n)) ≡ text_of (leaf_lines m n) ++ leaf_text (m.record_at n) n
-  unfolding leaf_lines leaf_text joined
-  leaves_suc n =
-      joined_append (λ (l : List ℕ). l) (leaf_lines m n) (cond (is_leaf m n) (leaf_line n (piece_at m n) ∷ []) [])
-      ∙ ap (λ (t : List ℕ). text_of (leaf_lines m n) ++ t) (one (is_leaf m n))
-    where
-      one : (leaf : Bool) → text_of (cond leaf (leaf_line n (piece_at m n) ∷ []) []) ≡ cond leaf (leaf_line n (piece_at m n)) []
-      one true = append-nil (leaf_line n (piece_at m n))
-      one false = refl
-
-  -- one record more
-  pub leaves_next : (n : ℕ) → text_of (leaf_lines m (n + 1)) ≡ text_of (leaf_lines m n) ++ leaf_text (m.record_at n) n
-  leaves_next n = rw (add-one n) (leaves_suc n)
-
-  -- so many records have at most so many lines
-  pub leaves_long : (f : Format) → ((n : ℕ) → RecordFits f (m.record_at n)) → (n : ℕ) → n ≤ 10 ^ 10 → length (text_of (leaf_lines m n)) ≤ line_room * n
-  leaves_long f fits zero l = rw leaves_none (omega arith)
-  leaves_long f fits (suc n) l =
-      rw (leaves_suc n, length-append (text_of (leaf_lines m n)) (leaf_text (m.record_at n) n))
-      (omega (arith, leaves_long f fits n (omega arith), text_long f n (m.record_at n) (omega arith) (fits n)))
 
 -- ---- the whole
 

@@ -15,9 +15,9 @@ use Rattle.stored.specs.declared.Record.{Record}
 use Rattle.stored.specs.Layout.{stored_none, vertex_bytes, record_bytes, vertex_in, record_in}
 use Rattle.stored.specs.Fitting.{OrNone, VertexFits, RecordFits, into_base_bytes, into_growth_bytes, vertex_fits, record_fits}
 use Rattle.stored.specs.Entries.{vertex_is_bytes, record_is_bytes}
-use Rattle.stored.specs.Tables.{Holds, vertex_put_lem, vertex_put_records, vertex_put_holds, record_put_lem, record_put_vertices, record_put_holds}
+use Rattle.stored.specs.Tables.{Holds, vertex_put_lem, vertex_put_records, vertex_put_holds, record_put_holds}
 use Rattle.mesh_tables.specs.Tables.{Tables, has_parents, vertex_with, refinement_ends}
-use Rattle.refine_cut.specs.Cut.{midpoint_of, one_vertex_more, two_records_more, with_midpoint, cut_record, leaf_record, with_children, cut_at}
+use Rattle.refine_cut.specs.Cut.{midpoint_of, one_vertex_more, with_midpoint, cut_record, leaf_record}
 use Rattle.refine_cut.specs.Slices.{Slices, tables_in, vertex_put, record_put, headed, midpoint_put, children_put, has_room, cut_with, cut_put}
 use Rattle.refine_cut.specs.Fits.{cut_record_fits, children_fit, midpoint_fits}
 
@@ -36,14 +36,6 @@ pub record Ready (l : Layout) (s : Slices) (n : ℕ) : Type 0 where
 -- ---- one record written
 
 module _ (l : Layout) (s : Slices) (h : Holds l s.base s.grown) (i : ℕ) (r : Record) where
-  put_records : RecordFits l.format r → i < l.records.end → record_in l (record_put l s i r).base (record_put l s i r).grown ≡ put_at i r (record_in l s.base s.grown)
-  unfolding record_put
-  put_records f e = record_put_lem l s.base s.grown h i r f e
-
-  put_vertices : vertex_in l (record_put l s i r).base (record_put l s i r).grown ≡ vertex_in l s.base s.grown
-  unfolding record_put
-  put_vertices = record_put_vertices l s.base s.grown h i r
-
   put_holds : Holds l (record_put l s i r).base (record_put l s i r).grown
   unfolding record_put
   put_holds = record_put_holds l s.base s.grown h i r
@@ -61,45 +53,23 @@ module _ (l : Layout) (s : Slices) (i : ℕ) (r : Record) (f : RecordFits l.form
 
 module _ (l : Layout) (s : Slices) (h : Holds l s.base s.grown) (n w : ℕ) (f : RecordFits l.format (record_in l s.base s.grown n)) (small : OrNone l.format w)
     (room : s.header.records + 1 < l.records.end) (few : l.records.end ≤ stored_none l.format) (there : n < s.header.records) where
-  abbrev r : Record
+  abbrev pub r : Record
   r = record_in l s.base s.grown n
 
-  abbrev first : ℕ
+  abbrev pub first : ℕ
   first = s.header.records
 
-  abbrev cut : Slices
+  abbrev pub cut : Slices
   cut = record_put l s n (cut_record r.piece first)
 
-  abbrev one : Slices
+  abbrev pub one : Slices
   one = record_put l cut first (leaf_record (cut_of r.piece w).first)
 
-  abbrev two : Slices
-  two = record_put l one (first + 1) (leaf_record (cut_of r.piece w).second)
-
-  cut_holds : Holds l cut.base cut.grown
+  pub cut_holds : Holds l cut.base cut.grown
   cut_holds = put_holds l s h n (cut_record r.piece first)
 
-  one_holds : Holds l one.base one.grown
+  pub one_holds : Holds l one.base one.grown
   one_holds = put_holds l cut cut_holds first (leaf_record (cut_of r.piece w).first)
-
-  two_records : record_in l two.base two.grown ≡ (with_children (tables_in l s) n w).record_at
-  unfolding with_children
-  two_records =
-      put_records l one one_holds (first + 1) (leaf_record (cut_of r.piece w).second) (children_fit l.format r f w small).1 room
-      ∙ ap (put_at (first + 1) (leaf_record (cut_of r.piece w).second))
-      (put_records l cut cut_holds first (leaf_record (cut_of r.piece w).first) (children_fit l.format r f w small).0 (omega arith)
-      ∙ ap (put_at first (leaf_record (cut_of r.piece w).first))
-      (put_records l s h n (cut_record r.piece first) (cut_record_fits l.format r first f (inr (omega arith))) (omega arith)))
-
-  two_vertices : vertex_in l two.base two.grown ≡ vertex_in l s.base s.grown
-  two_vertices =
-      put_vertices l one one_holds (first + 1) (leaf_record (cut_of r.piece w).second)
-      ∙ put_vertices l cut cut_holds first (leaf_record (cut_of r.piece w).first)
-      ∙ put_vertices l s h n (cut_record r.piece first)
-
-  children_tables : tables_in l (children_put l s n r w) ≡ with_children (tables_in l s) n w
-  unfolding children_put with_children
-  children_tables = λ k. record { header = two_records_more s.header; vertex_at = two_vertices k; record_at = two_records k }
 
   children_holds : Holds l (children_put l s n r w).base (children_put l s n r w).grown
   unfolding children_put
@@ -118,12 +88,12 @@ module _ (l : Layout) (s : Slices) (h : Holds l s.base s.grown) (n w : ℕ) (f :
 -- ---- the midpoint
 
 -- The slices with the midpoint: their tables, that they hold them, and what the cut goes on with.
-record Midway (l : Layout) (s t : Slices) (ends : Ends) : Type 0 where
-  same : tables_in l t ≡ with_midpoint (tables_in l s) ends
-  holds : Holds l t.base t.grown
-  records : record_in l t.base t.grown ≡ record_in l s.base s.grown
-  counted : t.header.records ≡ s.header.records
-  bytes : Bytes s.base × Bytes s.grown → Bytes t.base × Bytes t.grown
+pub record Midway (l : Layout) (s t : Slices) (ends : Ends) : Type 0 where
+  pub same : tables_in l t ≡ with_midpoint (tables_in l s) ends
+  pub holds : Holds l t.base t.grown
+  pub records : record_in l t.base t.grown ≡ record_in l s.base s.grown
+  pub counted : t.header.records ≡ s.header.records
+  pub bytes : Bytes s.base × Bytes s.grown → Bytes t.base × Bytes t.grown
 
 module _ (l : Layout) (s : Slices) (h : Holds l s.base s.grown) (ends : Ends) (f : VertexFits l.format (midpoint_of (vertex_in l s.base s.grown) ends))
     (room : s.header.vertices < l.vertices.end) where
@@ -167,19 +137,19 @@ module _ (l : Layout) (s : Slices) (h : Holds l s.base s.grown) (ends : Ends) (f
 -- ---- the whole cut
 
 module _ (l : Layout) (s : Slices) (n : ℕ) (ready : Ready l s n) where
-  abbrev record_n : Record
+  abbrev pub record_n : Record
   record_n = record_in l s.base s.grown n
 
-  abbrev ends_n : Ends
+  abbrev pub ends_n : Ends
   ends_n = refinement_ends record_n.piece
 
-  abbrev w_n : ℕ
+  abbrev pub w_n : ℕ
   w_n = vertex_with (tables_in l s) ends_n
 
-  abbrev with_midpoint_lem : Slices
+  abbrev pub with_midpoint_lem : Slices
   with_midpoint_lem = midpoint_put l s ends_n w_n
 
-  half : Midway l s with_midpoint_lem ends_n
+  pub half : Midway l s with_midpoint_lem ends_n
   unfolding ends_of
   half =
       let stored = record_fits l s.base s.grown ready.base_bytes ready.grown_bytes n in
@@ -191,34 +161,25 @@ module _ (l : Layout) (s : Slices) (n : ℕ) (ready : Ready l s n) where
       (stored.corners (higher_end record_n.piece record_n.piece.edge)))
       ready.vertex_room
 
-  small : OrNone l.format w_n
+  pub small : OrNone l.format w_n
   unfolding vertex_with
   small = inr (omega (arith, first_at_most (has_parents (tables_in l s) ends_n) s.header.vertices, ready.vertex_room, ready.few_vertices))
 
-  same_record : record_in l with_midpoint_lem.base with_midpoint_lem.grown n ≡ record_n
+  pub same_record : record_in l with_midpoint_lem.base with_midpoint_lem.grown n ≡ record_n
   same_record = λ k. half.records k n
 
-  record_is_stored : RecordFits l.format (record_in l with_midpoint_lem.base with_midpoint_lem.grown n)
+  pub record_is_stored : RecordFits l.format (record_in l with_midpoint_lem.base with_midpoint_lem.grown n)
   record_is_stored = subst (RecordFits l.format) (sym same_record) (record_fits l s.base s.grown ready.base_bytes ready.grown_bytes n)
 
-  room_left : with_midpoint_lem.header.records + 1 < l.records.end
+  pub room_left : with_midpoint_lem.header.records + 1 < l.records.end
   room_left = omega (arith, half.counted, ready.record_room)
 
-  still_there : n < with_midpoint_lem.header.records
+  pub still_there : n < with_midpoint_lem.header.records
   still_there = omega (arith, half.counted, ready.there)
 
-  cut_is : cut_put l s n ≡ children_put l with_midpoint_lem n record_n w_n
+  pub cut_is : cut_put l s n ≡ children_put l with_midpoint_lem n record_n w_n
   unfolding cut_put cut_with has_room
   cut_is = rw (lt-ltb s.header.vertices l.vertices.end ready.vertex_room, lt-ltb (s.header.records + 1) l.records.end ready.record_room)
-
-  -- The tables after the cut are the tables before it, cut.
-  pub cut_tables : tables_in l (cut_put l s n) ≡ cut_at (tables_in l s) n
-  unfolding cut_at
-  cut_tables =
-      ap (tables_in l) cut_is
-      ∙ ap (λ (r : Record). tables_in l (children_put l with_midpoint_lem n r w_n)) (sym same_record)
-      ∙ children_tables l with_midpoint_lem half.holds n w_n record_is_stored small room_left ready.few_records still_there
-      ∙ ap (λ (m : Tables). with_children m n w_n) half.same
 
   -- The slices still hold the layout's tables.
   pub cut_holds_on : Holds l (cut_put l s n).base (cut_put l s n).grown
@@ -233,10 +194,3 @@ module _ (l : Layout) (s : Slices) (n : ℕ) (ready : Ready l s n) where
       subst (λ (t : Slices). Bytes t.base × Bytes t.grown)
       (sym (cut_is ∙ ap (λ (r : Record). children_put l with_midpoint_lem n r w_n) (sym same_record)))
       (children_bytes l with_midpoint_lem half.holds n w_n record_is_stored small room_left ready.few_records still_there (half.bytes (ready.base_bytes, ready.grown_bytes)))
-
--- So for slices that are cut at the vertex with its refinement edge's ends for parents.
-pub cut_with_tables : (l : Layout) (s : Slices) (n w : ℕ) (t : Slices) → t ≡ cut_with l s n w → Ready l s n → w ≡ vertex_with (tables_in l s) (refinement_ends (record_in l s.base s.grown n).piece) →
-    tables_in l t ≡ cut_at (tables_in l s) n
-unfolding cut_put
-cut_with_tables l s n w t is ready found =
-    ap (tables_in l) (is ∙ ap (cut_with l s n) found) ∙ cut_tables l s n ready

@@ -9,7 +9,7 @@ use Rattle.stored.specs.Fitting.{round_rises}
 use Rattle.mesh_tables.specs.Tables.{tables_of}
 use Rattle.check_refusals.specs.Check.{check_number}
 use Rattle.refine_selection.specs.Selected.{wrong_selection_length, wrong_selection_mark, another_job, another_round, selection_rows, is_named}
-use Rattle.refine_pass.specs.Stays.{job_stays, round_stays, base_vertices_stay, base_records_stay}
+use Rattle.refine_pass.proofs.Stays.{job_stays, round_stays, base_vertices_stay, base_records_stay}
 use Rattle.refine_service.specs.Refine.{closed, result_of, refine_selection_rows, refine_number, refine_bytes}
 use Rattle.refine_service.specs.Order.{selection_number}
 use Rattle.refine_service.specs.Storing.{refine_selected}

@@ -6,7 +6,7 @@ use Rattle.std.proofs.Math.Bool.{true, false, not}
 use Rattle.std.proofs.lemmas.Bool.{false≢true, eqb-false}
 use Prim.Native.Nat.{ℕ, zero, suc, ◌+◌, ◌≤◌, ◌<◌}
 use Rattle.laws.specs.Below.{either, put_at, any_below, any_none, any_fails, any_fails_at, put_same, put_other}
-use Rattle.laws.specs.Order.{none_broken_lem}
+use Rattle.laws.proofs.Order.{none_broken_lem}
 use Rattle.piece_cut.specs.Cut.{cut_of}
 use Rattle.stored.specs.declared.Limits.{Limits}
 use Rattle.stored.specs.declared.Record.{Record}

@@ -5,4 +5,3 @@ pub mod Steps
 pub mod Law
 pub mod Linked
 pub mod Chosen
-pub mod Stays

@@ -14,7 +14,7 @@ use Rattle.mesh_tables.specs.Tables.{Tables, all_vertices, has_parents, vertex_w
 use Rattle.mesh_parents.specs.Pairs.{pair_key, key_of, pair_links, pairs_nexts_long, pairs_same, Linked, cleared, all_linked, vertex_with_is}
 use Rattle.refine_cut.specs.Cut.{cut_at}
 use Rattle.refine_cut.specs.Slices.{Slices, tables_in, cut_with, cut_put}
-use Rattle.refine_cut.specs.Law.{cut_tables}
+use Rattle.refine_cut.proofs.Law.{cut_tables}
 use Rattle.refine_pass.specs.Passes.{exceeds}
 use Rattle.refine_pass.specs.Puts.{refined_put, work, too_short, refined_within}
 use Rattle.refine_pass.specs.Steps.{cut_header, refined_within_lem, long_enough}

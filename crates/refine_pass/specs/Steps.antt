@@ -15,7 +15,7 @@ use Rattle.stored.specs.declared.Kind.{Kind}
 use Rattle.stored.specs.declared.Layout.{Layout}
 use Rattle.stored.specs.declared.Header.{Header}
 use Rattle.stored.specs.Layout.{vertex_width, record_width, vertex_in, record_in, numbers_reach}
-use Rattle.mesh_tables.specs.Tables.{vertex_with, refinement_ends, leaf_hangs, hanging_edge}
+use Rattle.mesh_tables.specs.Tables.{vertex_with, refinement_ends, hanging_edge}
 use Rattle.refine_cut.specs.Cut.{midpoint_of, one_vertex_more, two_records_more}
 use Rattle.refine_cut.specs.Slices.{Slices, tables_in, vertex_put, headed, midpoint_put, children_put, has_room, cut_with, cut_put}
 use Rattle.refine_pass.specs.Passes.{exceeds}
@@ -124,14 +124,6 @@ module _ (most : Limits) (l : Layout) where
   unfolding closing_put
   closing_out zero s e = refl
   closing_out (suc passes) s e = absurd (omega arith)
-
-  pub closing_next : (passes : ℕ) (s t : Slices) → 0 < passes → exceeds most s.header ≡ false → hanging_edge (tables_in l s) ≡ true → t ≡ pass_put most l (leaf_hangs (tables_in l s)) s →
-      closing_put most l (passes - 1) t ≡ closing_put most l passes s
-  unfolding closing_put
-  closing_next zero s t some few hangs is = absurd (omega arith)
-  closing_next (suc passes) s t some few hangs is =
-      let less : suc passes - 1 ≡ passes = omega arith in
-      rw (few, hangs) (ap (λ (k : ℕ). closing_put most l k t) less ∙ ap (closing_put most l passes) is)
 
   -- ---- all passes
 

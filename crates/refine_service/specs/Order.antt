@@ -2,7 +2,8 @@
 use Rattle.std.specs.Prelude.{◌≡◌, false, [], ◌∷◌, ℕ, eqb}
 use Rattle.std.proofs.Math.Path.{refl, sym}
 use Rattle.std.proofs.Common.{◌∙◌}
-use Rattle.laws.specs.Order.{row, first_broken, one_after_other}
+use Rattle.laws.specs.Order.{row, first_broken}
+use Rattle.laws.proofs.Order.{one_after_other}
 use Rattle.stored.specs.Layout.{StoredSelection, selection_of, named_in}
 use Rattle.mesh_tables.specs.Tables.{Tables}
 use Rattle.refine_selection.specs.Selected.{selection_rows, names_cut, names_last, round_row}

@@ -7,7 +7,8 @@ use Rattle.std.proofs.lemmas.List.{length-replicate}
 use Rattle.std.proofs.Math.Seq.{sets, length-sets}
 use borrow.Author.Tests.{eqb-true, lt-ltb, le-ltb, not-false}
 use Rattle.laws.specs.Lists.{zero_past, Bytes, bytes_none, bytes_cons, bytes_take, bytes_drop, bytes_sets, clear_with, output_of}
-use Rattle.laws.specs.Order.{first_broken, one_after_other, both_hold, none_broken_lem}
+use Rattle.laws.specs.Order.{first_broken}
+use Rattle.laws.proofs.Order.{one_after_other, both_hold, none_broken_lem}
 use Rattle.stored.specs.declared.Format.{Format}
 use Rattle.stored.specs.declared.Kind.{Kind}
 use Rattle.stored.specs.declared.Header.{Header}
@@ -24,7 +25,8 @@ use Rattle.refine_cut.specs.Slices.{slices, tables_in}
 use Rattle.refine_pass.specs.Passes.{exceeds, refined}
 use Rattle.refine_pass.specs.Puts.{refined_put, work, refined_within}
 use Rattle.refine_pass.specs.Steps.{refined_within_lem}
-use Rattle.refine_pass.specs.Law.{within, not_exceeds, Working, can_begin, refined_tables, refined_working}
+use Rattle.refine_pass.specs.Law.{within, not_exceeds, Working, can_begin}
+use Rattle.refine_pass.proofs.Law.{refined_tables, refined_working}
 use Rattle.refine_service.specs.Refine.{closed, result_of, refine_selection_rows, result_rows, refine_number, refine_bytes}
 use Rattle.refine_service.specs.Order.{selection_number}
 

@@ -3,7 +3,8 @@ use Rattle.std.specs.Prelude.{◌≡◌, false, cond, ◌↔◌, List, [], ◌�
 use Rattle.std.proofs.Math.Path.{refl, sym}
 use Rattle.std.proofs.Common.{◌∙◌}
 use Rattle.laws.specs.Lists.{output_of}
-use Rattle.laws.specs.Order.{row, first_broken, one_after_other, both_hold}
+use Rattle.laws.specs.Order.{row, first_broken}
+use Rattle.laws.proofs.Order.{one_after_other, both_hold}
 use Rattle.stored.specs.declared.Kind.{Kind}
 use Rattle.stored.specs.declared.Header.{Header}
 use Rattle.stored.specs.Layout.{mesh_bytes, Stored, StoredSelection, selection_of, named_in}

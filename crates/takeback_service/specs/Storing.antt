@@ -9,7 +9,8 @@ use Rattle.std.proofs.Math.Seq.{sets}
 use Rattle.laws.specs.Below.{count_below, list_below, list_length}
 use Rattle.laws.specs.Lists.{joined, joined_length, clear_with}
 use Rattle.laws.specs.Counts.{marked}
-use Rattle.laws.specs.Order.{first_broken, none_broken_lem}
+use Rattle.laws.specs.Order.{first_broken}
+use Rattle.laws.proofs.Order.{none_broken_lem}
 use Rattle.stored.specs.declared.Format.{Format}
 use Rattle.stored.specs.declared.Header.{Header}
 use Rattle.stored.specs.Layout.{none, limits, next_round, layout_of, vertex_width, record_width, mesh_length, header_bytes, vertex_bytes, record_bytes, Stored, header_of, laid_out, mesh_bytes, StoredSelection, selection_of, named_in}

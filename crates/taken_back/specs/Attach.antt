@@ -23,7 +23,7 @@ use Rattle.demands_taken_back.specs.Words.{GoodRequestFor, TakenBackFrom}
 use Rattle.demands_taken_back.specs.ByNumbers.{NamedNumber, Holder, ParentStays, ByNumbers}
 use Rattle.demands_taken_back.specs.ByTables.{cut_is, first_is, cut_vertex_lem}
 use Rattle.demands_taken_back.specs.TablesLeft.{NewNumber, TablesLeft}
-use Rattle.demands_taken_back.specs.FromTables.{tables_taken_back, tables_in_one, tables_no_longer}
+use Rattle.demands_taken_back.proofs.FromTables.{tables_taken_back, tables_in_one, tables_no_longer}
 
 -- What remains of tables is left of them, entry by entry.
 new_number : (stays : ℕ → Bool) (x : ℕ) → NewNumber stays x (renumbered stays x)

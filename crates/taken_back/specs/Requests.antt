@@ -7,14 +7,16 @@ use Rattle.std.proofs.Math.Bool.{not}
 use Rattle.std.proofs.Math.Logic.{inl, inr, ⊎_elim}
 use borrow.Author.Tests.{eqb-true, eqb-false, not-true}
 use Rattle.laws.specs.Below.{either}
-use Rattle.laws.specs.Order.{Rule, rule, Giving, Judged, judge, done, judged_then, given_exactly, accepted_exactly, given_passes, one_of_them}
+use Rattle.laws.specs.Order.{Rule, rule, Giving, Judged, judge, done, judged_then, given_passes, one_of_them}
+use Rattle.laws.proofs.Order.{given_exactly, accepted_exactly}
 use Rattle.stored.specs.declared.Kind.{Kind}
 use Rattle.stored.specs.Layout.{none, Stored, StoredSelection, selection_of, named_in}
 use Rattle.mesh_tables.specs.Tables.{Tables, tables_of}
 use Rattle.check_refusals.specs.Check.{rows, table_rows, check_number}
 use Rattle.check_meaning.specs.Tests.{Fails, reads, equal, fails_unless, none_passes}
 use Rattle.check_meaning.specs.Accepted.{first_child, Accepted}
-use Rattle.check_meaning.specs.Exactly.{check_rules, check_judged, accepts_exactly}
+use Rattle.check_meaning.specs.Exactly.{check_rules}
+use Rattle.check_meaning.proofs.Exactly.{check_judged, accepts_exactly}
 use Rattle.refine_selection.specs.Selected.{selection_rows, round_row}
 use Rattle.takeback_service.specs.TakeBack.{left, names_uncut, request_rows, take_back_number}
 use Rattle.takeback_service.specs.Order.{request_number, room_number, take_back_none, request_refused, later}

@@ -8,21 +8,21 @@ use Rattle.stored.specs.declared.Kind.{Kind}
 use Rattle.stored.specs.Layout.{last_round, mark_bytes, header_bytes, Mesh, laid_out, mesh_bytes, RightKind, Stored, of_kind, stored_as, StoredSelection, named_in}
 use Rattle.mesh_tables.specs.Tables.{tables_of}
 use Rattle.check_refusals.specs.Check.{check_number}
-use Rattle.check_meaning.specs.Exactly.{accepts_exactly}
+use Rattle.check_meaning.proofs.Exactly.{accepts_exactly}
 use Rattle.refine_selection.specs.Selected.{is_named}
 use Rattle.refine_service.specs.Refine.{result_of}
 use Rattle.takeback_remains.specs.Remains.{closed_up}
 use Rattle.takeback_service.specs.TakeBack.{left, take_back_number, take_back_bytes}
 use Rattle.takeback_meaning.specs.Answer.{refused_bytes, accepted_bytes, job_kept, round_next}
 use Rattle.cuts_names.specs.Pieces.{Node}
-use Rattle.cuts_coarser.specs.Remaining.{none_named}
+use Rattle.cuts_coarser.proofs.Remaining.{none_named}
 use Rattle.demands_words.specs.Words.{BaseMesh, named, Numbering, written, StoredMesh, count_in}
 use Rattle.demands_proofs.specs.Outcomes.{mesh_as_long}
 use Rattle.demands_proofs.specs.RefineNumbers.{result_length}
 use Rattle.demands_proofs.specs.GrownStores.{mesh_for}
 use Rattle.demands_proofs.specs.FromStored as From
 use Rattle.demands_taken_back.specs.Words.{GoodRequestFor, NamedPiece, TakenBackFrom, TakenBackOrShortFrom}
-use Rattle.demands_taken_back.specs.One.{nothing_gone}
+use Rattle.demands_taken_back.proofs.One.{nothing_gone}
 use Rattle.taken_back.specs.Words.{left_mesh, left_bytes, round_of}
 use Rattle.taken_back.specs.Attach.{left_taken_back, left_in_one, left_no_longer}
 use Rattle.taken_back.specs.Requests.{good_number, right_one_of, right_fits, only_right}

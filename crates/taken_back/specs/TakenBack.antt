@@ -18,7 +18,8 @@ use Rattle.cuts_names.specs.Pieces.{Node}
 use Rattle.demands_words.specs.Words.{StoredMesh, RightSelectionLength, RightSelectionMark, count_in}
 use Rattle.demands_taken_back.specs.Words.{GoodRequestFor, TakenBackFrom, MeetsTakenBack}
 use Rattle.demands_taken_back.specs.Stored as Again
-use Rattle.demands_taken_back.specs.One.{one_taken_back}
+use Rattle.demands_taken_back.proofs.Stored as AgainProved
+use Rattle.demands_taken_back.proofs.One.{one_taken_back}
 use Rattle.taken_back.specs.Words.{left_mesh, left_bytes, round_of, Later}
 use Rattle.taken_back.specs.Requests as Requests
 use Rattle.taken_back.specs.Requests.{take_back_rules, TakeBackAccepts}
@@ -52,11 +53,11 @@ written = accepted_bytes
 
 -- "The result is accepted by check"
 pub accepted_again : (s : Stored) (x : StoredMesh s) (request : StoredSelection) → GoodRequestFor x request → (check_of (left_mesh s request)).number ≡ 0
-accepted_again s x request good = Again.accepted_again s x request (left_mesh s request) (handed_back s x request good)
+accepted_again s x request good = AgainProved.accepted_again s x request (left_mesh s request) (handed_back s x request good)
 
 -- "and keeps the summed volume."
 pub same_volume : (s : Stored) (x : StoredMesh s) (request : StoredSelection) → GoodRequestFor x request → (check_of (left_mesh s request)).sixfold ≡ (check_of s).sixfold
-same_volume s x request good = Again.reported_volume s x request (left_mesh s request) (handed_back s x request good)
+same_volume s x request good = AgainProved.reported_volume s x request (left_mesh s request) (handed_back s x request good)
 
 -- 0 is answered exactly where the buffer has room for it. In one buffer it is no longer than the mesh was, so a buffer as long as the mesh is enough.
 pub fits_exactly : (s : Stored) (x : StoredMesh s) (request : StoredSelection) → GoodRequestFor x request → (room : ℕ) → (take_back_number s request room ≡ 0) ↔ (length (left_bytes s request) ≤ room)

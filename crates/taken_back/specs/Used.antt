@@ -17,7 +17,7 @@ use Rattle.demands_proofs.specs.Selections.{SameJob, SameRound, length_passes, m
 use Rattle.demands_proofs.specs.RefineNumbers.{refine_accepts_all}
 use Rattle.demands_proofs.specs.FromStored as From
 use Rattle.demands_taken_back.specs.Words.{TakenBackFrom}
-use Rattle.demands_taken_back.specs.Stored.{again, accepted_again}
+use Rattle.demands_taken_back.proofs.Stored.{again, accepted_again}
 use Rattle.taken_back.specs.Words.{Later}
 use Rattle.taken_back.specs.Requests.{take_back_accepts}
 use Rattle.taken_back.specs.Result.{check_accepts}

@@ -8,7 +8,8 @@ use Prim.Native.Nat.{ℕ}
 use Rattle.laws.specs.Counts.{counts_below}
 use Rattle.stored.specs.Layout.{record_in}
 use Rattle.mesh_tables.specs.Tables.{tables}
-use Rattle.check_children.specs.Children.{children_counted, children_in, any_bad_record_is}
+use Rattle.check_children.specs.Children.{children_counted, children_in}
+use Rattle.check_children.proofs.Children.{any_bad_record_is}
 use Rattle.check_children.proofs.bad_records.Goals as goal
 
 pub returns : goal.returns

@@ -6,7 +6,8 @@ use native.Mathlib.Omega.{arith}
 use lib.ListN.{length}
 use Rattle.stored.specs.Layout.{record_in}
 use Rattle.laws.specs.Counts.{counts_below, counts_none, counts_next, counts_end, counts_long}
-use Rattle.check_children.specs.Children.{children_counted, children_counting}
+use Rattle.check_children.specs.Children.{children_counted}
+use Rattle.check_children.proofs.Children.{children_counting}
 use Rattle.check_children.proofs.count_all_children.Given as goal
 
 abbrev pub invariant-loop-n : goal.invariant-loop-n

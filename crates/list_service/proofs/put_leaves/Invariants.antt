@@ -10,7 +10,8 @@ use Rattle.stored.specs.Layout.{stored1, header_of, layout_of}
 use Rattle.stored.specs.Fitting.{record_fits}
 use Rattle.mesh_tables.specs.Tables.{tables, tables_of}
 use Rattle.list_service.specs.Listing.{leaf_lines, text_of}
-use Rattle.list_service.specs.Putting.{TextPut, put_none, put_then, put_length, leaves_none, leaves_next, leaves_long}
+use Rattle.list_service.specs.Putting.{TextPut, put_none, put_then, put_length, leaves_none}
+use Rattle.list_service.proofs.Putting.{leaves_next, leaves_long}
 use Rattle.list_service.proofs.put_leaves.Given as goal
 
 abbrev pub invariant-loop-n : goal.invariant-loop-n

@@ -4,7 +4,7 @@ use Rattle.std.proofs.Common.{rules}
 use native.Mathlib.Omega.{arith}
 use Rattle.refine_cut.specs.Slices.{slices}
 use Rattle.refine_cut.specs.Steps.{midpoint_records, no_vertex_room, no_record_room, cut_written}
-use Rattle.refine_cut.specs.Law.{cut_with_tables}
+use Rattle.refine_cut.proofs.Law.{cut_with_tables}
 use Rattle.refine_cut.proofs.cut_at.Goals as goal
 
 pub returns-then-vertices-h : goal.returns-then-vertices-h

@@ -9,7 +9,8 @@ use Rattle.laws.specs.Counts.{marked}
 use Rattle.mesh_tables.specs.Tables.{leaf_hangs, hanging_edge}
 use Rattle.refine_cut.specs.Slices.{slices, tables_in}
 use Rattle.refine_pass.specs.Puts.{closing_put}
-use Rattle.refine_pass.specs.Steps.{pass_same, closing_exceeds, closing_none, closing_next, closing_out}
+use Rattle.refine_pass.specs.Steps.{pass_same, closing_exceeds, closing_none, closing_out}
+use Rattle.refine_pass.proofs.Steps.{closing_next}
 use Rattle.refine_pass.specs.Law.{within}
 use Rattle.refine_pass.specs.Linked.{AtWork}
 use Rattle.refine_pass.proofs.close.Goals as goal

@@ -9,7 +9,8 @@ use Rattle.grid.specs.declared.Place.{Place}
 use Rattle.grid.specs.Places.{coordinate, point_of, shift}
 use Rattle.grid_volume.specs.Volume.{signed_of}
 use Rattle.grid_inside.specs.Inside.{lies_in}
-use Rattle.grid_inside.specs.Weights.{WeightedMean, mean_moved, closed_exactly}
+use Rattle.grid_inside.specs.Weights.{WeightedMean, mean_moved}
+use Rattle.grid_inside.proofs.Weights.{closed_exactly}
 
 -- ---- along one axis: q is the mean of the places p with the weights w
 

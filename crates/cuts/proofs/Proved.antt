@@ -1,14 +1,16 @@
 -- Every statement of `Statements`, proved.
 use Rattle.std.proofs.Common.{sym, ◌∙◌}
 use Rattle.cuts.specs.Statements.{Statements}
-use Rattle.cuts_names.specs.Names.{mid_sym, mid_injective_lem, mid_not_base_lem, level_base_lem, level_mid_lem}
+use Rattle.cuts_names.specs.Names.{mid_not_base_lem, level_base_lem}
+use Rattle.cuts_names.proofs.Names.{mid_sym, mid_injective_lem, level_mid_lem}
 use Rattle.cuts_names.specs.Pieces.{child_renamed, piece_root_lem, piece_kid_lem}
-use Rattle.cuts_names.specs.Macro.{formal_small, formal_own, formal_unset, formal_new, down_stands, macro_down, down_level, node_valid, node_macro, node_level, corner_level}
+use Rattle.cuts_names.proofs.Macro.{formal_small, formal_own, formal_unset, formal_new, down_stands, macro_down, down_level, node_valid, node_macro, node_level, corner_level}
 use Rattle.cuts.specs.Depth.{deepest_rests_lem, hanging_below_lem}
 use Rattle.cuts.specs.Grid.{on_grid_lem, corner_built, ends_even_lem, makes_exact}
 use Rattle.cuts.specs.Least.{hanging_is_cut_lem, reached_keeps, reached_least, reached_depth}
 use Rattle.cuts.specs.Count.{leaves_count_lem, cuts_fewer_lem, leaves_fewer_lem, made_fewer_lem}
-use Rattle.cuts.specs.Fuel.{kids_one_less_lem, sum_falls_lem, cuts_at_most_lem, closed_exists_lem, closed_least_lem, closed_unique_lem}
+use Rattle.cuts.specs.Fuel.{closed_least_lem, closed_unique_lem}
+use Rattle.cuts.proofs.Fuel.{kids_one_less_lem, sum_falls_lem, cuts_at_most_lem, closed_exists_lem}
 use Rattle.cuts.specs.Faces.{shared_face_one_mark, node_determined_lem, corners_different_lem}
 use Rattle.cuts.specs.LinkNames.{marked, names_distinct_lem}
 use Rattle.cuts.specs.LinkNodes.{linked, nodes_distinct_lem}

@@ -12,7 +12,7 @@ use Rattle.cuts.specs.Least.{same_node, node_equality}
 use Rattle.cuts.specs.Faces.{shared_face_one_mark}
 use Rattle.cuts_faces.specs.FaceToFace.{ProperlyMarked, InTwo, InOne, FaceToFace, MarkedAlike}
 use Rattle.cuts_faces.specs.Apart.{leaves_apart, apart_not_same}
-use Rattle.cuts_faces.specs.AtMost.{proper_marked, never_three, never_beyond}
+use Rattle.cuts_faces.proofs.AtMost.{proper_marked, never_three, never_beyond}
 use Rattle.cuts_faces.specs.Twin.{TwinOf, Outside, twin, leaf_twin}
 
 -- Two nodes are the same or not.

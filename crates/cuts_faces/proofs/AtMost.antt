@@ -9,7 +9,7 @@ use Rattle.laws.specs.Below.{either}
 use Rattle.cuts_names.specs.Names.{Name, mid, mid_not_base_lem}
 use Rattle.cuts_names.specs.Pieces.{Piece, Side, low, high, put, makes, Node, generation, kid, piece_at}
 use Rattle.cuts_names.specs.Base.{HasCorner, OnFace, Different, SameFace, Marked}
-use Rattle.cuts_names.specs.Macro.{node_valid}
+use Rattle.cuts_names.proofs.Macro.{node_valid}
 use Rattle.cuts.specs.Faces.{all_four, face_flip, face_then, corners_different_lem}
 use Rattle.cuts_faces.specs.FaceToFace.{ProperlyMarked, LiesIn, FaceLiesIn, Alone}
 use Rattle.cuts_faces.specs.Lies.{lies_corner, lies_parents}

@@ -15,8 +15,10 @@ use Rattle.demands_proofs.specs.FromStored as From
 use Rattle.demands_taken_back.specs.Words.{GoodRequestFor, TakenBackFrom}
 use Rattle.demands_taken_back.specs.Renumbered.{StillThere, numbers_left}
 use Rattle.demands_taken_back.specs.ByNumbers.{ByNumbers, by_numbers_still}
-use Rattle.demands_taken_back.specs.Stored.{set, set_remains, taken_back, counted_after, no_longer}
-use Rattle.demands_taken_back.specs.TablesLeft.{TablesLeft, left_holds}
+use Rattle.demands_taken_back.specs.Stored.{set, set_remains}
+use Rattle.demands_taken_back.proofs.Stored.{taken_back, counted_after, no_longer}
+use Rattle.demands_taken_back.specs.TablesLeft.{TablesLeft}
+use Rattle.demands_taken_back.proofs.TablesLeft.{left_holds}
 
 module _ (s : Stored) (x : StoredMesh s) (request : StoredSelection) (good : GoodRequestFor x request)
     (cut_vertex : ℕ → ℕ) (freed vertex_stays record_stays : ℕ → Bool) (by : ByNumbers x.base x.cuts x.stores.numbers request cut_vertex freed vertex_stays record_stays)

@@ -1,0 +1,3 @@
+-- Theorems that an edit of a definition in specs/ breaks. They stand here, so that specs/ still reads under it.
+pub mod Macro
+pub mod Names

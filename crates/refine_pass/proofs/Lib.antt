@@ -1,0 +1,4 @@
+-- Theorems that an edit of a definition in specs/ breaks. They stand here, so that specs/ still reads under it.
+pub mod Law
+pub mod Stays
+pub mod Steps
