@@ -1,6 +1,6 @@
 -- The faces of the records so far, linked by their keys: what is found along the links is what a search through all faces would find.
 use Rattle.std.specs.Prelude.{◌≡◌, refl, true, false, List, [], ◌∷◌, ltb, length, get_or}
-use Rattle.std.proofs.Common.{sym, ap, ◌∙◌, le-ltb}
+use Rattle.std.proofs.Common.{sym, ◌∙◌, le-ltb}
 use Rattle.std.proofs.Math.Bool.{Bool}
 use Rattle.std.proofs.Math.Logic.{⊎_elim}
 use Prim.Native.Nat.{ℕ, zero, suc, ◌+◌, ◌*◌, ◌/◌, ◌%◌, ◌≤◌, ◌<◌}

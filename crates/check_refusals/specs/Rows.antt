@@ -1,5 +1,5 @@
 -- The numbers that check gives, and that its report has the number. Assumes nothing.
-use Rattle.std.specs.Prelude.{◌≡◌, refl, ℕ, ◌≤◌, leb}
+use Rattle.std.specs.Prelude.{◌≡◌, refl, ◌≤◌, leb}
 use Rattle.std.proofs.Common.{sym, ◌∙◌, leb-true}
 use Rattle.laws.specs.Order.{given_passes, in_turn_lem}
 use Rattle.stored.specs.Layout.{Stored}

@@ -1,5 +1,5 @@
 -- Check's answer without the figures, and what it leaves to add.
-use Rattle.std.specs.Prelude.{◌≡◌, Bool, ◌≢◌, ℕ, ◌^◌, ◌≤◌, ◌<◌, eqb}
+use Rattle.std.specs.Prelude.{◌≡◌, Bool, ◌≢◌, ◌^◌, ◌≤◌, ◌<◌, eqb}
 use Rattle.std.proofs.Math.Path.{refl}
 use Rattle.std.proofs.Common.{sym, ◌∙◌, arith, ne_eqb}
 use Rattle.std.proofs.Math.Bool.{true, false, cond}

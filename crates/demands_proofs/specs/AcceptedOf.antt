@@ -1,7 +1,7 @@
 -- Check accepts whatever is a stored mesh: the bytes of a set of cuts of a properly marked base mesh, with no hanging edge, within the limits.
 -- Assumes nothing.
 use Rattle.std.proofs.Common.{sym, ap, subst, arith}
-use Rattle.std.specs.Prelude.{false, ℕ, ◌≤◌, ◌<◌}
+use Rattle.std.specs.Prelude.{ℕ, ◌≤◌, ◌<◌}
 use Rattle.std.proofs.Math.Bool.{not}
 use Rattle.stored.specs.Fitting.{U16, U32, MaterialFits, stored_none_small}
 use Rattle.stored.specs.declared.Kind.{Kind}

@@ -1,6 +1,6 @@
 -- Tables that have grown from a base hold their own numbering, and the bytes that refine writes of them store the set to which they have grown.
 -- Assumes nothing.
-use Rattle.std.specs.Prelude.{◌≡◌, refl, false, [], ◌∷◌, ℕ, ◌<◌, ltb}
+use Rattle.std.specs.Prelude.{◌≡◌, refl, [], ◌∷◌, ℕ, ◌<◌, ltb}
 use Rattle.std.proofs.Common.{sym, ◌∙◌, ⊎_elim, ltb-true}
 use Rattle.std.proofs.Math.Path.{ap}
 use Rattle.stored.specs.Fitting.{U16, U32, MaterialFits}

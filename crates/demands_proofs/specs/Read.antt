@@ -1,5 +1,5 @@
 -- What check reads from the bytes of a numbered set of cuts: the tables hold just what was numbered. Assumes nothing.
-use Rattle.std.specs.Prelude.{◌≡◌, refl, false, [], ℕ, zero, suc, ◌-◌, ◌≤◌, ◌<◌, get_or, nat_abs}
+use Rattle.std.specs.Prelude.{◌≡◌, refl, [], ℕ, zero, suc, ◌-◌, ◌≤◌, ◌<◌, get_or, nat_abs}
 use Rattle.std.proofs.Common.{sym, ap, ◌∙◌, subst, inl, inr, ⊎_elim, arith, lt-ltb, le-ltb}
 use Rattle.laws.specs.Below.{either, list_length, list_at}
 use Rattle.laws.specs.Lists.{bytes_none, bytes_cons}

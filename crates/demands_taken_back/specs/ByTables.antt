@@ -1,5 +1,5 @@
 -- What the tables of a stored mesh say of cuts, in the numbering's words.
-use Rattle.std.specs.Prelude.{◌≡◌, true, List, ℕ, ◌≤◌, ◌<◌}
+use Rattle.std.specs.Prelude.{◌≡◌, true, ℕ, ◌≤◌, ◌<◌}
 use Rattle.std.proofs.Common.{sym, ap, ◌∙◌, ⊎_elim, arith}
 use Rattle.stored.specs.Layout.{Stored}
 use Rattle.stored.specs.declared.Record.{Record}

@@ -2,24 +2,21 @@
 -- and 2 let pass.
 use Rattle.std.specs.Prelude.{◌≡◌, Bool, true, false, cond, ◌&&◌, ℕ, zero, suc, ◌+◌, ◌-◌, ◌*◌, ◌≤◌, ◌<◌, get_or, drop, leb, ltb, eqb}
 use Rattle.std.proofs.Math.Path.{refl, sym, ap, ap₂, subst}
-use Rattle.std.proofs.Common.{◌∙◌, ⊎_elim, mul-suc, mul-le-mul_left, length-append, drop_of_length-le, take_at, drop_at, take-add, take-take, length-take-le, get_or-take, get_or-drop}
+use Rattle.std.proofs.Common.{◌∙◌, ⊎_elim, mul-suc, mul-le-mul_left, length-append, drop_of_length-le, take_at, drop_at, take-add, length-take-le, get_or-take, get_or-drop}
 use native.Mathlib.Omega.{arith}
 use mathlib.Core.List.{List, [], ◌∷◌, ◌++◌, append_assoc, append-nil}
 use Rattle.std.proofs.Math.ListN.{length, take, length-drop, length-take}
-use Rattle.std.proofs.lemmas.List.Edits.{sets}
 use Rattle.std.proofs.Math.Seq.{take_all}
-use Rattle.std.proofs.lemmas.List.{take-append-le}
 use borrow.Author.Tests.{le-leb, eq-eqb, leb-true, eqb-true, ltb-true, ltb-false}
 use Rattle.laws.specs.Below.{either, list_below, list_none, list_suc, list_length, list_of, and_left, and_right}
-use Rattle.laws.specs.Lists.{drop_take, sets_append, Bytes, bytes_append, bytes_take, bytes_drop, bytes_joined, joined, joined_length, joined_at, joined_below}
+use Rattle.laws.specs.Lists.{Bytes, bytes_append, bytes_take, bytes_drop, bytes_joined, joined, joined_length, joined_at, joined_below}
 use Rattle.stored.specs.declared.Format.{Format}
 use Rattle.stored.specs.declared.Kind.{Kind}
-use Rattle.stored.specs.declared.Layout.{Layout}
 use Rattle.stored.specs.declared.Header.{Header}
 use Rattle.stored.specs.declared.Vertex.{Vertex}
 use Rattle.stored.specs.declared.Record.{Record}
-use Rattle.stored.specs.Layout.{header_width, vertex_width, record_width, right_mark, right_length, mesh_length, vertices_in_base, records_in_base, vertices_grown, records_grown, base_length, grown_length, header_from, header_bytes, vertex_from, vertex_bytes, record_from, record_bytes, held_in, vertex_in, record_in, layout_of, working, assembled, RightKind, Stored, header_of, layout_in, stored_vertex, stored_record, Mesh, mesh_of, laid_out, mesh_bytes, stored_as}
-use Rattle.stored.specs.Held.{held_base, held_growth, same_held}
+use Rattle.stored.specs.Layout.{header_width, vertex_width, record_width, right_mark, right_length, mesh_length, vertices_in_base, records_in_base, vertices_grown, records_grown, base_length, grown_length, header_from, header_bytes, vertex_from, vertex_bytes, record_from, record_bytes, held_in, vertex_in, record_in, layout_of, RightKind, Stored, header_of, layout_in, stored_vertex, stored_record, Mesh, mesh_of, laid_out, mesh_bytes, stored_as}
+use Rattle.stored.specs.Held.{held_base, held_growth}
 use Rattle.stored.specs.Fitting.{HeaderFits, VertexFits, RecordFits}
 use Rattle.stored.specs.Entries.{header_is_bytes, vertex_is_bytes, record_is_bytes, header_wide, header_again_lem, header_right, header_written_again, vertex_wide_lem, vertex_again_lem, vertex_written_again, record_wide_lem, record_again_lem, record_written_again}
 

@@ -1,5 +1,5 @@
 -- Tables to work on, in every format: they are copied from a mesh in one buffer into cleared slices, and a mesh in one buffer is assembled from them.
-use Rattle.std.specs.Prelude.{◌≡◌, Bool, true, false, get_or, drop, replicate, ltb}
+use Rattle.std.specs.Prelude.{◌≡◌, false, get_or, drop, replicate, ltb}
 use Rattle.std.proofs.Math.Path.{refl, sym, ap, ap₂}
 use Rattle.std.proofs.Common.{◌∙◌, ⊎_elim, mul-suc, mul-le-mul_left, arith, length-drop, length-take, take-take, length-take-le, get_or-take, get_or-drop, ltb-true, ltb-false}
 use Rattle.std.proofs.Math.Bool.{cond}

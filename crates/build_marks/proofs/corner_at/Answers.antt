@@ -1,6 +1,5 @@
 -- `build_marks::corner_at`: past the end a corner is 0.
 -- Assumes nothing.
-use Rattle.std.proofs.Common.{rules}
 use mathlib.Core.Path.{sym}
 use native.Mathlib.Omega.{arith}
 use lib.ListN.{get_or-eq_default}

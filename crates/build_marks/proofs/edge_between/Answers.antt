@@ -1,6 +1,5 @@
 -- `build_marks::edge_between`: what the calls return.
 -- Assumes nothing.
-use Rattle.std.proofs.Common.{rules}
 use Rattle.build_marks.specs.Choosing.{edge_for}
 use Rattle.build_marks.proofs.edge_between.Goals as goal
 

@@ -1,6 +1,5 @@
 -- `build_marks::first_of`: each way out is one case of the definition.
 -- Assumes nothing.
-use Rattle.std.proofs.Common.{rules}
 use mathlib.Core.Path.{sym, ◌∙◌}
 use Rattle.build_marks.specs.Choosing.{first_of}
 use Rattle.build_marks.proofs.first_of.Goals as goal

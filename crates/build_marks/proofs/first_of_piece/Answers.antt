@@ -1,6 +1,5 @@
 -- `build_marks::first_of_piece`: one edge after the other.
 -- Assumes nothing.
-use Rattle.std.proofs.Common.{rules}
 use Rattle.build_marks.proofs.first_of_piece.Goals as goal
 
 pub returns : goal.returns

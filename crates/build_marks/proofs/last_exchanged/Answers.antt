@@ -1,6 +1,5 @@
 -- `build_marks::last_exchanged`: the corners in slots 2 and 3 change places.
 -- Assumes nothing.
-use Rattle.std.proofs.Common.{rules}
 use mathlib.Core.Path.{refl}
 use Rattle.build_marks.specs.Marking.{last_exchanged}
 use Rattle.build_marks.proofs.last_exchanged.Goals as goal

@@ -1,6 +1,5 @@
 -- `build_marks::marked_by`: the first-ranked edge of the piece and of each face.
 -- Assumes nothing.
-use Rattle.std.proofs.Common.{rules}
 use mathlib.Core.List.{[], ◌∷◌}
 use Rattle.build_marks.specs.Choosing.{marked_by}
 use Rattle.build_marks.proofs.marked_by.Goals as goal

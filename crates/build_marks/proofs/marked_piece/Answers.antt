@@ -1,6 +1,5 @@
 -- `build_marks::marked_piece`: its six edges, each between two of its corners.
 -- Assumes nothing.
-use Rattle.std.proofs.Common.{rules}
 use mathlib.Core.Path.{◌≡◌, ◌∙◌}
 use mathlib.Core.List.{List}
 use Prim.Native.Nat.{ℕ}

@@ -1,6 +1,5 @@
 -- `build_marks::place_at`: past the end a coordinate is 0.
 -- Assumes nothing.
-use Rattle.std.proofs.Common.{rules}
 use mathlib.Core.Path.{sym, ◌∙◌, ap}
 use lib.ListN.{get_or}
 use lib.ListN.{get_or-eq_default}

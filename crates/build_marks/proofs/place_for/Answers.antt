@@ -1,6 +1,5 @@
 -- `build_marks::place_for`: an i32 holds the sum, which is a u16.
 -- Assumes nothing.
-use Rattle.std.proofs.Common.{rules}
 use mathlib.Core.Path.{ap}
 use lib.IntN.{nat_abs}
 use Rattle.build_marks.specs.Shifted.{widens, adds, sum_held, narrows}

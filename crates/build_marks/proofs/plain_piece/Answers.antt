@@ -1,6 +1,5 @@
 -- `build_marks::plain_piece` reads the four corners.
 -- Assumes nothing.
-use Rattle.std.proofs.Common.{rules}
 use mathlib.Core.List.{[], ◌∷◌}
 use Rattle.build_marks.specs.Marking.{plain_piece}
 use Rattle.build_marks.proofs.plain_piece.Goals as goal

@@ -1,6 +1,5 @@
 -- `build_marks::plain_place` reads the three coordinates.
 -- Assumes nothing.
-use Rattle.std.proofs.Common.{rules}
 use Rattle.build_marks.specs.Marking.{plain_place}
 use Rattle.build_marks.proofs.plain_place.Goals as goal
 

@@ -1,6 +1,5 @@
 -- `build_marks::plain_record` makes the plain piece right-handed, and marks it.
 -- Assumes nothing.
-use Rattle.std.proofs.Common.{rules}
 use mathlib.Core.Path.{◌∙◌, ap}
 use Rattle.piece.specs.declared.Piece.{Piece}
 use Rattle.stored.specs.Layout.{none}

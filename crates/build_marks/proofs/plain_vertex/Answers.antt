@@ -1,6 +1,5 @@
 -- `build_marks::plain_vertex` has no parents.
 -- Assumes nothing.
-use Rattle.std.proofs.Common.{rules}
 use Rattle.stored.specs.Layout.{none}
 use Rattle.build_marks.specs.Marking.{plain_vertex}
 use Rattle.build_marks.proofs.plain_vertex.Goals as goal

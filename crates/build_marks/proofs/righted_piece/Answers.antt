@@ -1,15 +1,10 @@
 -- `build_marks::righted_piece`: a left-handed piece is exchanged, any other stays.
 -- Assumes nothing.
-use mathlib.Core.Path.{◌≡◌, sym, ◌∙◌, ap}
-use mathlib.Core.Bool.{Bool}
-use mathlib.Core.List.{List}
-use lib.IntN.{ℤ}
+use mathlib.Core.Path.{sym, ◌∙◌, ap}
 use mir.Syntax.{w64}
-use mir.Val.{of_z}
 use mir.Facts.{to_z-of_z}
-use Rattle.piece.specs.declared.Piece.{Piece}
 use Rattle.grid_volume.specs.Volume.{is_negative, left_handed, signed_of}
-use Rattle.build_marks.specs.Marking.{plain_point, righted_piece}
+use Rattle.build_marks.specs.Marking.{righted_piece}
 use Rattle.build_marks.proofs.righted_piece.Goals as goal
 
 pub returns-then-is_negative : goal.returns-then-is_negative

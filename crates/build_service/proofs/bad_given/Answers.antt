@@ -1,6 +1,5 @@
 -- `build_service::bad_given`: each way out is one case of the definition, at what the calls return; a plain piece has generation and flag 0.
 -- Assumes nothing.
-use Rattle.std.proofs.Common.{rules}
 use mathlib.Core.Path.{◌≡◌, sym, ap, ◌∙◌}
 use mathlib.Core.Bool.{Bool}
 use lib.Dec.{eqb}

@@ -1,15 +1,10 @@
 -- `build_service::bad_given_pieces` has found no bad piece before n.
 -- Assumes nothing.
-use Rattle.std.proofs.Common.{rules}
-use Prim.Native.Nat.{ℕ, ◌≤◌, ◌-◌}
-use mathlib.Core.Path.{◌≡◌, sym, ◌∙◌}
-use mathlib.Core.Bool.{Bool, false}
-use mathlib.Core.List.{List}
+use Prim.Native.Nat.{◌-◌}
+use mathlib.Core.Path.{sym, ◌∙◌}
+use mathlib.Core.Bool.{false}
 use native.Mathlib.Omega.{arith}
-use lib.IntN.{ℤ}
-use Rattle.laws.specs.Below.{any_below, any_none, any_next, any_is, any_end}
-use Rattle.check_refusals.specs.Refusals.{bad_piece}
-use Rattle.build_marks.specs.Marking.{plain_vertex, plain_piece}
+use Rattle.laws.specs.Below.{any_none, any_next, any_is, any_end}
 use Rattle.build_service.proofs.bad_given_pieces.Invariants.{bad}
 use Rattle.build_service.proofs.bad_given_pieces.Goals as goal
 

@@ -1,12 +1,11 @@
 -- `build_service::bad_given_pieces` has found no bad piece before n.
 -- Assumes nothing.
 use Prim.Native.Nat.{ℕ, ◌≤◌, ◌-◌}
-use mathlib.Core.Path.{◌≡◌, sym, ◌∙◌}
+use mathlib.Core.Path.{◌≡◌}
 use mathlib.Core.Bool.{Bool, false}
 use mathlib.Core.List.{List}
-use native.Mathlib.Omega.{arith}
 use lib.IntN.{ℤ}
-use Rattle.laws.specs.Below.{any_below, any_none, any_next, any_is, any_end}
+use Rattle.laws.specs.Below.{any_below}
 use Rattle.check_refusals.specs.Refusals.{bad_piece}
 use Rattle.build_marks.specs.Marking.{plain_vertex, plain_piece}
 use Rattle.build_service.proofs.bad_given_pieces.Given as goal

@@ -1,6 +1,5 @@
 -- `build_service::build`: the rules in their order; the buffer is cleared before the first.
 -- Assumes nothing.
-use Rattle.std.proofs.Common.{rules}
 use mathlib.Core.Path.{sym, ◌∙◌, ap}
 use lib.ListN.{length}
 use Rattle.stored.specs.declared.Limits.{Limits}

@@ -1,6 +1,5 @@
 -- `build_service::judged` makes what it lends as long as the rules need it.
 -- Assumes nothing.
-use Rattle.std.proofs.Common.{rules}
 use Rattle.check_refusals.specs.Lent.{just_made, lent_to_base}
 use Rattle.build_service.proofs.judged.Goals as goal
 

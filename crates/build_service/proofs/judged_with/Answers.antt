@@ -1,6 +1,5 @@
 -- `build_service::judged_with`: each way out is one case of the definition, at what the calls return; what is lent has room, so each rule is what it is.
 -- Assumes nothing.
-use Rattle.std.proofs.Common.{rules}
 use mathlib.Core.Path.{◌≡◌, refl, sym, ◌∙◌, ap}
 use mathlib.Core.Bool.{Bool, ◌||◌}
 use borrow.Author.Tests.{le-ltb}

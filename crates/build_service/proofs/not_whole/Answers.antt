@@ -1,6 +1,5 @@
 -- `build_service::not_whole`: each way out is one case of the definition, at what the calls return.
 -- Assumes nothing.
-use Rattle.std.proofs.Common.{rules}
 use borrow.Author.Tests.{eq-eqb, ne_eqb}
 use Rattle.build_service.specs.Build.{not_whole}
 use Rattle.build_service.proofs.not_whole.Goals as goal

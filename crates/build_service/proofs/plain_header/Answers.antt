@@ -1,6 +1,5 @@
 -- `build_service::plain_header`: counts that are not wrong fit.
 -- Assumes nothing.
-use Rattle.std.proofs.Common.{rules}
 use native.Mathlib.Omega.{arith}
 use Rattle.build_service.specs.Build.{plain_header}
 use Rattle.build_service.specs.Storing.{few_vertices, few_records}

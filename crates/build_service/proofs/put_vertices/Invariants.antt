@@ -1,13 +1,8 @@
 -- `build_service::put_vertices` has written the vertices before i, and no record.
 -- Assumes nothing.
 use Prim.Native.Nat.{◌≤◌, ◌-◌}
-use mathlib.Core.Path.{◌≡◌, refl, sym, ◌∙◌, ap}
-use native.Mathlib.Nat.{le_antisymm}
-use native.Mathlib.Omega.{arith}
-use lib.ListN.{length}
-use Rattle.stored.specs.declared.Format.{Format}
-use Rattle.stored.specs.Layout.{vertex_bytes, working}
-use Rattle.build_service.specs.Storing.{vertices_put, vertices_none, vertex_step, vertex_frame, vertices_length}
+use mathlib.Core.Path.{◌≡◌}
+use Rattle.build_service.specs.Storing.{vertices_put}
 use Rattle.build_service.proofs.put_vertices.Given as goal
 
 abbrev pub invariant-loop-i : goal.invariant-loop-i

@@ -1,6 +1,5 @@
 -- `build_service::store`: the work areas hold the plain mesh's tables, which are judged and stored.
 -- Assumes nothing.
-use Rattle.std.proofs.Common.{rules}
 use Prim.Native.Nat.{ℕ, ◌*◌}
 use mathlib.Core.Path.{sym, ◌∙◌, ap, subst}
 use native.Mathlib.Omega.{arith}

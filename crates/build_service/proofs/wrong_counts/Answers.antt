@@ -1,6 +1,5 @@
 -- `build_service::wrong_counts`: each way out is one case of the definition, at what the calls return. No count is beyond itself.
 -- Assumes nothing.
-use Rattle.std.proofs.Common.{rules}
 use lib.Dec.{ltb}
 use lib.ListN.{length}
 use borrow.Author.Tests.{lt-ltb, le-ltb}

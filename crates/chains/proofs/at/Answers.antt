@@ -1,6 +1,5 @@
 -- `chains::at` reads the entry, which fits; past the end it is 0.
 -- Assumes nothing.
-use Rattle.std.proofs.Common.{rules}
 use mathlib.Core.Path.{sym}
 use native.Mathlib.Omega.{arith}
 use lib.ListN.{get_or-eq_default}

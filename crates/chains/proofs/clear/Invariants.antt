@@ -1,12 +1,10 @@
 -- `chains::clear` has cleared the entries before i.
 -- Assumes nothing.
-use Prim.Native.Nat.{ℕ, ◌≤◌, ◌-◌}
-use mathlib.Core.Path.{◌≡◌, refl, sym, ◌∙◌, ap}
-use native.Mathlib.Omega.{arith}
-use lib.ListN.{length, set}
-use mathlib.Core.List.{List}
-use lib.ListN.{replicate, length-set}
-use Rattle.laws.specs.Lists.{copied, copied_none, clear_next, clear_done}
+use Prim.Native.Nat.{◌≤◌, ◌-◌}
+use mathlib.Core.Path.{◌≡◌}
+use lib.ListN.{length}
+use lib.ListN.{replicate}
+use Rattle.laws.specs.Lists.{copied}
 use Rattle.chains.proofs.clear.Given as goal
 
 abbrev pub invariant-loop-i : goal.invariant-loop-i

@@ -1,6 +1,5 @@
 -- `chains::count` adds 1 where the table has the index and the count is not full.
 -- Assumes nothing.
-use Rattle.std.proofs.Common.{rules}
 use mathlib.Core.Path.{sym}
 use Prim.Native.Nat.{◌<◌}
 use native.Mathlib.Omega.{arith}

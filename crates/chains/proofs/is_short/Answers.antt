@@ -1,6 +1,5 @@
 -- `chains::is_short` asks the three tests one after the other.
 -- Assumes nothing.
-use Rattle.std.proofs.Common.{rules}
 use borrow.Author.Tests.{eq-eqb, ne_eqb, lt-ltb, le-ltb}
 use Rattle.laws.specs.Links.{short}
 use Rattle.chains.proofs.is_short.Goals as goal

@@ -1,6 +1,5 @@
 -- `chains::link` takes a link that leads down.
 -- Assumes nothing.
-use Rattle.std.proofs.Common.{rules}
 use borrow.Author.Tests.{le-leb, lt-leb}
 use Rattle.laws.specs.Links.{link_at}
 use Rattle.chains.proofs.link.Goals as goal

@@ -1,6 +1,5 @@
 -- `chains::push` writes both entries where there is room, and else nothing.
 -- Assumes nothing.
-use Rattle.std.proofs.Common.{rules}
 use Prim.Native.Nat.{ℕ}
 use mathlib.Core.Path.{sym, ap, ◌∙◌}
 use native.Mathlib.Numerals.{add-one}

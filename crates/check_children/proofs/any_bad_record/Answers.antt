@@ -1,16 +1,11 @@
 -- `check_children::any_bad_record` has passed no record before n that is refused, and these have counted.
 -- Assumes nothing.
-use Rattle.std.proofs.Common.{rules}
-use Prim.Native.Nat.{◌≤◌, ◌-◌}
-use mathlib.Core.Path.{◌≡◌, sym, ◌∙◌, ap}
+use Prim.Native.Nat.{◌-◌}
+use mathlib.Core.Path.{sym, ◌∙◌}
 use mathlib.Core.Bool.{false, true≢false}
 use native.Mathlib.Omega.{arith}
-use lib.ListN.{length}
-use Rattle.laws.specs.Below.{any_below, any_none, any_next, any_is, any_end}
-use Rattle.mesh_tables.specs.Tables.{tables}
-use Rattle.laws.specs.Counts.{counts_below, counts_none, counts_next, counts_end, counts_long}
-use Rattle.check_children.specs.Children.{bad_record_by}
-use Rattle.check_children.specs.Midpoints.{midpoint_counted, midpoint_marking}
+use Rattle.laws.specs.Below.{any_none, any_next, any_is, any_end}
+use Rattle.laws.specs.Counts.{counts_none, counts_next, counts_end}
 use Rattle.check_children.proofs.any_bad_record.Goals as goal
 
 pub loop-n-init : goal.loop-n-init

@@ -1,15 +1,13 @@
 -- `check_children::any_bad_record` has passed no record before n that is refused, and these have counted.
 -- Assumes nothing.
 use Prim.Native.Nat.{◌≤◌, ◌-◌}
-use mathlib.Core.Path.{◌≡◌, sym, ◌∙◌, ap}
-use mathlib.Core.Bool.{false, true≢false}
-use native.Mathlib.Omega.{arith}
-use lib.ListN.{length}
-use Rattle.laws.specs.Below.{any_below, any_none, any_next, any_is, any_end}
+use mathlib.Core.Path.{◌≡◌}
+use mathlib.Core.Bool.{false}
+use Rattle.laws.specs.Below.{any_below}
 use Rattle.mesh_tables.specs.Tables.{tables}
-use Rattle.laws.specs.Counts.{counts_below, counts_none, counts_next, counts_end, counts_long}
+use Rattle.laws.specs.Counts.{counts_below}
 use Rattle.check_children.specs.Children.{bad_record_by}
-use Rattle.check_children.specs.Midpoints.{midpoint_counted, midpoint_marking}
+use Rattle.check_children.specs.Midpoints.{midpoint_counted}
 use Rattle.check_children.proofs.any_bad_record.Given as goal
 
 abbrev pub invariant-loop-n : goal.invariant-loop-n

@@ -1,7 +1,6 @@
 -- `check_children::bad_children`: each way out is one case of the definition, at what the calls return.
 -- Assumes nothing.
-use Rattle.std.proofs.Common.{rules}
-use borrow.Author.Tests.{le-leb, lt-leb, not-true, not-false}
+use borrow.Author.Tests.{le-leb, lt-leb}
 use Rattle.check_refusals.specs.Refusals.{bad_children}
 use Rattle.check_children.proofs.bad_children.Goals as goal
 

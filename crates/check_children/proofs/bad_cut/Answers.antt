@@ -1,6 +1,5 @@
 -- `check_children::bad_cut`: each way out is one case of the definition, at what the calls return.
 -- Assumes nothing.
-use Rattle.std.proofs.Common.{rules}
 use mathlib.Core.Path.{sym, ◌∙◌}
 use Rattle.check_refusals.specs.Refusals.{bad_cut}
 use Rattle.check_children.specs.Midpoints.{midpoint_counted}

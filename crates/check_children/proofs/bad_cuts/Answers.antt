@@ -1,6 +1,5 @@
 -- `check_children::bad_cuts`: each way out is one case of the definition, at what the calls return. The links and the table of midpoints are filled before
 -- they are asked. Assumes nothing.
-use Rattle.std.proofs.Common.{rules}
 use mathlib.Core.Path.{◌≡◌, sym, ◌∙◌, ap}
 use mathlib.Core.List.{List}
 use mathlib.Core.Bool.{false}

@@ -1,6 +1,5 @@
 -- `check_children::bad_record`: each way out is one case of the definition, at what the calls return.
 -- Assumes nothing.
-use Rattle.std.proofs.Common.{rules}
 use mathlib.Core.Path.{sym, ◌∙◌}
 use Rattle.check_children.specs.Children.{bad_record_by}
 use Rattle.check_children.proofs.bad_record.Goals as goal

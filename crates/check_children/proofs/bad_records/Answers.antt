@@ -1,6 +1,5 @@
 -- `check_children::bad_records` asks the table that it has cleared and filled.
 -- Assumes nothing.
-use Rattle.std.proofs.Common.{rules}
 use mathlib.Core.Path.{◌≡◌, ◌∙◌, ap}
 use mathlib.Core.List.{List}
 use lib.ListN.{length}

@@ -1,14 +1,9 @@
 -- `check_children::count_all_children` has counted the children of the records before n.
 -- Assumes nothing.
-use Rattle.std.proofs.Common.{rules}
-use Prim.Native.Nat.{◌≤◌, ◌-◌}
-use mathlib.Core.Path.{◌≡◌, sym, ◌∙◌, ap}
+use Prim.Native.Nat.{◌-◌}
+use mathlib.Core.Path.{sym}
 use native.Mathlib.Omega.{arith}
-use lib.ListN.{length}
-use Rattle.stored.specs.Layout.{record_in}
-use Rattle.laws.specs.Counts.{counts_below, counts_none, counts_next, counts_end, counts_long}
-use Rattle.check_children.specs.Children.{children_counted}
-use Rattle.check_children.proofs.Children.{children_counting}
+use Rattle.laws.specs.Counts.{counts_none, counts_next, counts_end}
 use Rattle.check_children.proofs.count_all_children.Goals as goal
 
 pub loop-n-init : goal.loop-n-init

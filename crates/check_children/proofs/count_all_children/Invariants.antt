@@ -1,13 +1,10 @@
 -- `check_children::count_all_children` has counted the children of the records before n.
 -- Assumes nothing.
 use Prim.Native.Nat.{◌≤◌, ◌-◌}
-use mathlib.Core.Path.{◌≡◌, sym, ◌∙◌, ap}
-use native.Mathlib.Omega.{arith}
-use lib.ListN.{length}
+use mathlib.Core.Path.{◌≡◌}
 use Rattle.stored.specs.Layout.{record_in}
-use Rattle.laws.specs.Counts.{counts_below, counts_none, counts_next, counts_end, counts_long}
+use Rattle.laws.specs.Counts.{counts_below}
 use Rattle.check_children.specs.Children.{children_counted}
-use Rattle.check_children.proofs.Children.{children_counting}
 use Rattle.check_children.proofs.count_all_children.Given as goal
 
 abbrev pub invariant-loop-n : goal.invariant-loop-n

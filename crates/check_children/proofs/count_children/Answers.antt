@@ -1,6 +1,5 @@
 -- `check_children::count_children`: an uncut record counts nothing, a cut one twice.
 -- Assumes nothing.
-use Rattle.std.proofs.Common.{rules}
 use borrow.Author.Tests.{eq-eqb, ne_eqb}
 use Rattle.check_children.specs.Children.{children_counted}
 use Rattle.check_children.proofs.count_children.Goals as goal

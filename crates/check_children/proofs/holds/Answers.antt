@@ -1,6 +1,5 @@
 -- `check_children::holds` reads the record's piece.
 -- Assumes nothing.
-use Rattle.std.proofs.Common.{rules}
 use mathlib.Core.Path.{◌∙◌, ap}
 use Rattle.stored.specs.declared.Record.{Record}
 use Rattle.piece.specs.Same.{same_piece}

@@ -1,6 +1,5 @@
 -- `check_children::is_cramped` asks the three tests one after the other.
 -- Assumes nothing.
-use Rattle.std.proofs.Common.{rules}
 use mathlib.Core.Path.{sym, ◌∙◌}
 use borrow.Author.Tests.{lt-ltb, le-ltb}
 use Rattle.check_children.specs.Lent.{cramped}

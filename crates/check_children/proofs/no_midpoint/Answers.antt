@@ -1,6 +1,5 @@
 -- `check_children::no_midpoint`: each way out is one case of the definition, at what the calls return.
 -- Assumes nothing.
-use Rattle.std.proofs.Common.{rules}
 use borrow.Author.Tests.{le-leb, lt-leb}
 use Rattle.check_children.specs.Midpoints.{no_midpoint_by}
 use Rattle.check_children.proofs.no_midpoint.Goals as goal

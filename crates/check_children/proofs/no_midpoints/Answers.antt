@@ -1,13 +1,10 @@
 -- `check_children::no_midpoints` has passed no vertex before v that is no midpoint.
 -- Assumes nothing.
-use Rattle.std.proofs.Common.{rules}
-use Prim.Native.Nat.{◌≤◌, ◌-◌}
-use mathlib.Core.Path.{◌≡◌, sym, ◌∙◌}
+use Prim.Native.Nat.{◌-◌}
+use mathlib.Core.Path.{sym, ◌∙◌}
 use mathlib.Core.Bool.{false}
 use native.Mathlib.Omega.{arith}
-use Rattle.laws.specs.Below.{any_below, any_none, any_next, any_is, any_end}
-use Rattle.mesh_tables.specs.Tables.{tables}
-use Rattle.check_children.specs.Midpoints.{no_midpoint_by}
+use Rattle.laws.specs.Below.{any_none, any_next, any_is, any_end}
 use Rattle.check_children.proofs.no_midpoints.Goals as goal
 
 pub loop-v-init : goal.loop-v-init

@@ -1,10 +1,9 @@
 -- `check_children::no_midpoints` has passed no vertex before v that is no midpoint.
 -- Assumes nothing.
 use Prim.Native.Nat.{◌≤◌, ◌-◌}
-use mathlib.Core.Path.{◌≡◌, sym, ◌∙◌}
+use mathlib.Core.Path.{◌≡◌}
 use mathlib.Core.Bool.{false}
-use native.Mathlib.Omega.{arith}
-use Rattle.laws.specs.Below.{any_below, any_none, any_next, any_is, any_end}
+use Rattle.laws.specs.Below.{any_below}
 use Rattle.mesh_tables.specs.Tables.{tables}
 use Rattle.check_children.specs.Midpoints.{no_midpoint_by}
 use Rattle.check_children.proofs.no_midpoints.Given as goal

@@ -1,6 +1,5 @@
 -- `check_children::not_child_of_one`: each way out is one case of the definition, at what the calls return.
 -- Assumes nothing.
-use Rattle.std.proofs.Common.{rules}
 use borrow.Author.Tests.{le-leb, lt-leb}
 use Rattle.check_children.specs.Children.{not_child_of_one_by}
 use Rattle.check_children.proofs.not_child_of_one.Goals as goal

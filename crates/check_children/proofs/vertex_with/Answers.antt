@@ -1,6 +1,5 @@
 -- `check_children::vertex_with`: what is found along the links is what a search through all vertices would find.
 -- Assumes nothing.
-use Rattle.std.proofs.Common.{rules}
 use mathlib.Core.Path.{◌∙◌}
 use Rattle.mesh_parents.specs.Pairs.{vertex_with_is}
 use Rattle.check_children.proofs.vertex_with.Goals as goal

@@ -1,13 +1,11 @@
 -- `check_faces::bad_along` finds from where it stands on what is found from m on.
 -- Assumes nothing.
-use Prim.Native.Nat.{ℕ, ◌-◌}
-use mathlib.Core.Path.{◌≡◌, refl, sym, ◌∙◌, ap}
-use mathlib.Core.Bool.{Bool}
-use native.Mathlib.Omega.{arith}
-use Rattle.laws.specs.Links.{any_along, any_along_none, any_along_found, any_along_past, link_down}
+use Prim.Native.Nat.{◌-◌}
+use mathlib.Core.Path.{◌≡◌}
+use Rattle.laws.specs.Links.{any_along}
 use Rattle.stored.specs.Layout.{record_in}
 use Rattle.check_faces.specs.Faces.{bad_face}
-use Rattle.check_faces.specs.Linked.{before_from, bad_along}
+use Rattle.check_faces.specs.Linked.{before_from}
 use Rattle.check_faces.proofs.bad_along.Given as goal
 
 abbrev pub invariant-loop-to : goal.invariant-loop-to

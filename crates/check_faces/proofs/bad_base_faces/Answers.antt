@@ -1,6 +1,5 @@
 -- `check_faces::bad_base_faces`: lists that are too short are answered at once, else each record is judged.
 -- Assumes nothing.
-use Rattle.std.proofs.Common.{rules}
 use mathlib.Core.Path.{sym, ◌∙◌}
 use Rattle.laws.specs.Links.{roomy}
 use Rattle.check_refusals.specs.Refusals.{bad_base_faces}

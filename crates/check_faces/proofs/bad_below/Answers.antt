@@ -1,17 +1,15 @@
 -- `check_faces::bad_below` has found no bad record before n, and the faces of these are linked.
 -- Assumes nothing.
-use Rattle.std.proofs.Common.{rules}
-use Prim.Native.Nat.{ℕ, ◌*◌, ◌≤◌, ◌-◌}
-use mathlib.Core.Path.{◌≡◌, refl, sym, ◌∙◌}
+use Prim.Native.Nat.{ℕ, ◌-◌}
+use mathlib.Core.Path.{refl, sym, ◌∙◌}
 use mathlib.Core.Bool.{false}
 use native.Mathlib.Omega.{arith}
-use lib.ListN.{length}
-use Rattle.laws.specs.Below.{any_below, any_none, any_next, any_is, any_end}
-use Rattle.laws.specs.Links.{links_of, Empty}
+use Rattle.laws.specs.Below.{any_none, any_next, any_is, any_end}
+use Rattle.laws.specs.Links.{links_of}
 use Rattle.stored.specs.declared.Record.{Record}
 use Rattle.stored.specs.Layout.{record_in}
 use Rattle.check_refusals.specs.Refusals.{bad_faces}
-use Rattle.check_faces.specs.Linked.{Linked, none_linked, linked_is, record_pushed}
+use Rattle.check_faces.specs.Linked.{none_linked, linked_is, record_pushed}
 use Rattle.check_faces.proofs.bad_below.Goals as goal
 
 pub loop-n-init : goal.loop-n-init

@@ -1,20 +1,18 @@
 -- `check_faces::bad_below` has found no bad record before n, and the faces of these are linked.
 -- Assumes nothing.
-use Prim.Native.Nat.{ℕ, ◌*◌, ◌≤◌, ◌-◌}
-use mathlib.Core.Path.{◌≡◌, refl, sym, ◌∙◌}
+use Prim.Native.Nat.{◌*◌, ◌≤◌, ◌-◌}
+use mathlib.Core.Path.{◌≡◌}
 use mathlib.Core.Bool.{false}
-use native.Mathlib.Omega.{arith}
 use lib.ListN.{length}
-use Rattle.laws.specs.Below.{any_below, any_none, any_next, any_is, any_end}
+use Rattle.laws.specs.Below.{any_below}
 use Rattle.laws.specs.Links.{links_of, Empty}
-use Rattle.stored.specs.declared.Record.{Record}
 use Rattle.stored.specs.Layout.{record_in}
 use Rattle.check_refusals.specs.Refusals.{bad_faces}
-use Rattle.check_faces.specs.Linked.{Linked, none_linked, linked_is, record_pushed}
+use Rattle.check_faces.specs.Linked.{Linked}
 use Rattle.check_faces.proofs.bad_below.Given as goal
 
 abbrev pub invariant-loop-n : goal.invariant-loop-n
-invariant-loop-n l =     (l.n ≤ l.count)
+invariant-loop-n l = (l.n ≤ l.count)
     × (Empty l.initial.heads → (any_below l.n (bad_faces (record_in l.l l.base l.grown)) ≡ false) × Linked (record_in l.l l.base l.grown) (length l.initial.heads) (length l.initial.nexts) (4 * l.n) (links_of l.heads l.nexts))
     × (length l.heads ≡ length l.initial.heads)
     × (length l.nexts ≡ length l.initial.nexts)

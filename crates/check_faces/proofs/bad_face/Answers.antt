@@ -1,10 +1,8 @@
 -- `check_faces::bad_face`: each way out is one case of the definition, at what the calls return.
 -- Assumes nothing.
-use Rattle.std.proofs.Common.{rules}
 use Prim.Native.Nat.{ℕ}
 use mathlib.Core.Path.{sym, ◌∙◌}
 use mathlib.Core.Bool.{Bool}
-use borrow.Author.Tests.{not-true, not-false}
 use Rattle.stored.specs.declared.Record.{Record}
 use Rattle.stored.specs.Layout.{record_in}
 use Rattle.check_faces.specs.Faces.{is_face, bad_face, bad_face_is}

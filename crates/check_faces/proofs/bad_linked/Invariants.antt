@@ -1,13 +1,12 @@
 -- `check_faces::bad_linked` has passed no bad face before face i.
 -- Assumes nothing.
-use Prim.Native.Nat.{ℕ, ◌≤◌, ◌-◌}
-use mathlib.Core.Path.{◌≡◌, sym, ◌∙◌, ap}
-use mathlib.Core.Bool.{Bool, false}
-use native.Mathlib.Omega.{arith}
+use Prim.Native.Nat.{◌≤◌, ◌-◌}
+use mathlib.Core.Path.{◌≡◌}
+use mathlib.Core.Bool.{false}
 use lib.ListN.{get_or}
-use Rattle.laws.specs.Below.{any_below, any_none, any_next, any_is, any_end}
+use Rattle.laws.specs.Below.{any_below}
 use Rattle.stored.specs.Layout.{record_in}
-use Rattle.check_faces.specs.Linked.{bad_along, bad_linked}
+use Rattle.check_faces.specs.Linked.{bad_along}
 use Rattle.check_faces.proofs.bad_linked.Given as goal
 
 abbrev pub invariant-loop-i : goal.invariant-loop-i

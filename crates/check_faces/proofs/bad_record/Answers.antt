@@ -1,6 +1,5 @@
 -- `check_faces::bad_record`: what the calls find and link, of the record that is read. The keys are among those of the heads.
 -- Assumes nothing.
-use Rattle.std.proofs.Common.{rules}
 use lib.ListN.{length}
 use Rattle.check_faces.specs.Linked.{KeysWithin, keys_within}
 use Rattle.check_faces.proofs.bad_record.Goals as goal

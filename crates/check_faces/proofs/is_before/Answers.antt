@@ -1,6 +1,5 @@
 -- `check_faces::is_before`: each way out is one case of the definition, at what the call returns.
 -- Assumes nothing.
-use Rattle.std.proofs.Common.{rules}
 use borrow.Author.Tests.{lt-ltb, le-ltb}
 use Rattle.check_faces.specs.Faces.{is_before}
 use Rattle.check_faces.proofs.is_before.Goals as goal

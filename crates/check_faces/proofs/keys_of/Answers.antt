@@ -1,6 +1,5 @@
 -- `check_faces::keys_of`: each key is what a call returns.
 -- Assumes nothing.
-use Rattle.std.proofs.Common.{rules}
 use Rattle.check_faces.proofs.keys_of.Goals as goal
 
 pub returns : goal.returns

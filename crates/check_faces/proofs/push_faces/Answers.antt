@@ -1,6 +1,5 @@
 -- `check_faces::push_faces`: one after the other; the lists stay as long as they are.
 -- Assumes nothing.
-use Rattle.std.proofs.Common.{rules}
 use native.Mathlib.Omega.{arith}
 use Rattle.check_faces.specs.Linked.{four_pushed}
 use Rattle.check_faces.proofs.push_faces.Goals as goal

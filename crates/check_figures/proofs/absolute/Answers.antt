@@ -1,5 +1,4 @@
 -- `check_figures::absolute` meets its contract: the number is far from the least i64, so its negative fits. Assumes nothing.
-use Rattle.std.proofs.Common.{rules}
 use Rattle.std.proofs.Common.{◌≡◌, true, false, ℤ, pos, nat_abs, ap, ◌∙◌, subst, zero-le}
 use lib.Signed.{lt_z}
 use Rattle.grid_volume.specs.Exact.{itself, passed, difference, fits, stored, above_zero, not_below_zero, abs_from_zero, cast_fits}

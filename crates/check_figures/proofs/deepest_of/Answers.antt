@@ -1,7 +1,6 @@
 -- `check_figures::deepest_of` has the greatest of the leaves before n.
 -- Assumes nothing.
-use Rattle.std.proofs.Common.{rules}
-use Rattle.std.proofs.Common.{◌≡◌, ℕ, ◌-◌, ◌≤◌, max, sym, ap, ◌∙◌, le_antisymm, arith, rules}
+use Rattle.std.proofs.Common.{ℕ, ◌-◌, max, sym, ap, ◌∙◌, le_antisymm, arith}
 use Rattle.laws.specs.Below.{greatest_below, greatest_none, greatest_next}
 use Rattle.stored.specs.Layout.{record_in}
 use Rattle.check_refusals.specs.Check.{leaf_generation, deepest}

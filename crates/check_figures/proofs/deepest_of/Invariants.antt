@@ -1,9 +1,9 @@
 -- `check_figures::deepest_of` has the greatest of the leaves before n.
 -- Assumes nothing.
-use Rattle.std.proofs.Common.{◌≡◌, ℕ, ◌-◌, ◌≤◌, max, sym, ap, ◌∙◌, le_antisymm, arith, rules}
-use Rattle.laws.specs.Below.{greatest_below, greatest_none, greatest_next}
+use Rattle.std.proofs.Common.{◌≡◌, ◌-◌, ◌≤◌}
+use Rattle.laws.specs.Below.{greatest_below}
 use Rattle.stored.specs.Layout.{record_in}
-use Rattle.check_refusals.specs.Check.{leaf_generation, deepest}
+use Rattle.check_refusals.specs.Check.{leaf_generation}
 use Rattle.check_figures.proofs.deepest_of.Given as goal
 
 abbrev pub invariant-loop-n : goal.invariant-loop-n

@@ -1,7 +1,6 @@
 -- `check_figures::leaf_sixfold`: each way out is one case of the definition, at what the calls return.
 -- Assumes nothing.
-use Rattle.std.proofs.Common.{rules}
-use Rattle.std.proofs.Common.{sym, ◌∙◌, rules}
+use Rattle.std.proofs.Common.{sym, ◌∙◌}
 use Rattle.check_refusals.specs.Check.{leaf_sixfold}
 use Rattle.check_figures.proofs.leaf_sixfold.Goals as goal
 

@@ -1,7 +1,6 @@
 -- `check_figures::leaves_of` has counted the leaves before n.
 -- Assumes nothing.
-use Rattle.std.proofs.Common.{rules}
-use Rattle.std.proofs.Common.{◌≡◌, ℕ, ◌-◌, ◌≤◌, sym, ap, ◌∙◌, subst, le_antisymm, arith, rules}
+use Rattle.std.proofs.Common.{ℕ, ◌-◌, ◌≤◌, sym, ap, ◌∙◌, subst, le_antisymm, arith}
 use Rattle.laws.specs.Below.{bit, bit_small, count_below, count_none, count_next, count_at_most}
 use Rattle.stored.specs.Layout.{record_in}
 use Rattle.mesh_tables.specs.Tables.{uncut}

@@ -1,7 +1,6 @@
 -- `check_figures::sixfold_at`: the absolute value of the signed determinant, which is small enough.
 -- Assumes nothing.
-use Rattle.std.proofs.Common.{rules}
-use Rattle.std.proofs.Common.{ℕ, List, get_or, nat_abs, ap, ◌∙◌, rules}
+use Rattle.std.proofs.Common.{ℕ, List, get_or, nat_abs, ap, ◌∙◌}
 use Rattle.grid.specs.Places.{point_of}
 use Rattle.grid_volume.specs.Volume.{signed_of, sixfold_of}
 use Rattle.grid_volume.specs.Exact.{Holds, bounded, returned, itself, stored}

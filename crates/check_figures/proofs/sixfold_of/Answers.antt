@@ -1,10 +1,7 @@
 -- `check_figures::sixfold_of` has summed the leaves before n, modulo 2^64.
 -- Assumes nothing.
-use Rattle.std.proofs.Common.{rules}
-use Rattle.std.proofs.Common.{◌≡◌, ℕ, ◌+◌, ◌-◌, ◌%◌, ◌^◌, ◌≤◌, List, sym, ap, ◌∙◌, le_antisymm, arith, rules}
+use Rattle.std.proofs.Common.{ℕ, ◌+◌, ◌-◌, ◌%◌, ◌^◌, sym, ap, ◌∙◌, le_antisymm, arith}
 use Rattle.laws.specs.Below.{sum_below, sum_none}
-use Rattle.stored.specs.declared.Layout.{Layout}
-use Rattle.stored.specs.Layout.{record_in, vertex_in}
 use Rattle.check_refusals.specs.Check.{leaf_sixfold, sixfold}
 use Rattle.check_figures.specs.Bounds.{wraps_next}
 use Rattle.check_figures.proofs.sixfold_of.Invariants.{volume_at}

@@ -1,6 +1,5 @@
 -- `check_hanging::first_hanging` searches along the links of all vertices, filled from empty ones, where there is room and there are made vertices.
 -- Assumes nothing.
-use Rattle.std.proofs.Common.{rules}
 use mathlib.Core.Path.{sym, ◌∙◌}
 use Rattle.laws.specs.Links.{roomy}
 use Rattle.mesh_tables.specs.Tables.{tables}

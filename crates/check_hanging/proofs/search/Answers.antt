@@ -1,17 +1,14 @@
 -- `check_hanging::search` has passed no hanging edge of a record before n, of an edge code before e; what the links from `to` on still have decides on edge e.
 -- Assumes nothing.
-use Rattle.std.proofs.Common.{rules}
-use Prim.Native.Nat.{ℕ, ◌≤◌, ◌-◌}
+use Prim.Native.Nat.{ℕ, ◌-◌}
 use mathlib.Core.Path.{◌≡◌, refl, sym, ◌∙◌, ap}
 use mathlib.Core.Bool.{false}
 use mathlib.Core.List.{List}
 use native.Mathlib.Omega.{arith}
-use borrow.Author.Tests.{not-true, not-false}
-use Rattle.laws.specs.Below.{any_below, any_none, any_next, any_end}
+use Rattle.laws.specs.Below.{any_none, any_next, any_end}
 use Rattle.laws.specs.Links.{any_along, any_along_none, any_along_found, any_along_past, link_down}
 use Rattle.piece.specs.Ends.{ends_of, ends_at, ends_at_lem}
-use Rattle.mesh_tables.specs.Tables.{Tables, tables, piece_at, has_parents, hangs, hangs_at, leaf_hangs}
-use Rattle.check_hanging.specs.declared.Found.TheVariants.{Nothing}
+use Rattle.mesh_tables.specs.Tables.{Tables, tables, piece_at, has_parents, hangs_at, leaf_hangs}
 use Rattle.check_hanging.specs.Hanging.{rests, place_found, none_found}
 use Rattle.mesh_hanging.specs.Hanging.{any_linked, linked_hangs, leaf_not_linked, not_leaf}
 use Rattle.check_hanging.proofs.search.Goals as goal

@@ -1,18 +1,12 @@
 -- `check_hanging::search` has passed no hanging edge of a record before n, of an edge code before e; what the links from `to` on still have decides on edge e.
 -- Assumes nothing.
-use Prim.Native.Nat.{ℕ, ◌≤◌, ◌-◌}
-use mathlib.Core.Path.{◌≡◌, refl, sym, ◌∙◌, ap}
+use Prim.Native.Nat.{◌≤◌, ◌-◌}
+use mathlib.Core.Path.{◌≡◌}
 use mathlib.Core.Bool.{false}
-use mathlib.Core.List.{List}
-use native.Mathlib.Omega.{arith}
-use borrow.Author.Tests.{not-true, not-false}
-use Rattle.laws.specs.Below.{any_below, any_none, any_next, any_end}
-use Rattle.laws.specs.Links.{any_along, any_along_none, any_along_found, any_along_past, link_down}
-use Rattle.piece.specs.Ends.{ends_of, ends_at, ends_at_lem}
-use Rattle.mesh_tables.specs.Tables.{Tables, tables, piece_at, has_parents, hangs, hangs_at, leaf_hangs}
+use Rattle.laws.specs.Below.{any_below}
+use Rattle.laws.specs.Links.{any_along}
+use Rattle.mesh_tables.specs.Tables.{tables, has_parents, hangs, hangs_at, leaf_hangs}
 use Rattle.check_hanging.specs.declared.Found.TheVariants.{Nothing}
-use Rattle.check_hanging.specs.Hanging.{rests, place_found, none_found}
-use Rattle.mesh_hanging.specs.Hanging.{any_linked, linked_hangs, leaf_not_linked, not_leaf}
 use Rattle.check_hanging.proofs.search.Given as goal
 
 abbrev pub invariant-loop-to : goal.invariant-loop-to

@@ -1,11 +1,9 @@
 -- `check_inside::any_in_cell` finds from where it is on what is found from the cell's head on.
 -- Assumes nothing.
-use Rattle.std.proofs.Common.{rules}
 use Prim.Native.Nat.{◌-◌}
 use mathlib.Core.Path.{◌≡◌, sym, ◌∙◌}
 use native.Mathlib.Omega.{arith}
-use Rattle.laws.specs.Links.{any_along, any_along_none, any_along_found, any_along_past, link_down}
-use Rattle.stored.specs.Layout.{vertex_in}
+use Rattle.laws.specs.Links.{any_along_none, any_along_found, any_along_past, link_down}
 use Rattle.check_inside.specs.Cells.{hangs_below, in_cell}
 use Rattle.check_inside.proofs.any_in_cell.Goals as goal
 

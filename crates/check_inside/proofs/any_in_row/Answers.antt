@@ -1,11 +1,9 @@
 -- `check_inside::any_in_row` has found none in the cells before x.
 -- Assumes nothing.
-use Rattle.std.proofs.Common.{rules}
-use Prim.Native.Nat.{ℕ, ◌+◌, ◌≤◌, ◌-◌}
-use mathlib.Core.Path.{◌≡◌, sym, ◌∙◌}
+use Prim.Native.Nat.{ℕ, ◌-◌}
+use mathlib.Core.Path.{sym, ◌∙◌}
 use mathlib.Core.Bool.{Bool, false}
 use native.Mathlib.Omega.{arith}
-use Rattle.laws.specs.Below.{any_below}
 use Rattle.stored.specs.Layout.{vertex_in}
 use Rattle.check_inside.specs.Cells.{hangs_below, in_cell, in_row}
 use Rattle.check_inside.specs.Search.{within_is, within_none, within_next, within_end}

@@ -1,18 +1,11 @@
 -- `check_inside::any_record` has found none before n.
 -- Assumes nothing.
-use Rattle.std.proofs.Common.{rules}
-use Prim.Native.Nat.{ℕ, ◌≤◌, ◌<◌, ◌-◌}
-use mathlib.Core.Path.{◌≡◌, sym, ◌∙◌}
-use mathlib.Core.Bool.{Bool, false}
+use Prim.Native.Nat.{◌-◌}
+use mathlib.Core.Path.{sym, ◌∙◌}
+use mathlib.Core.Bool.{false}
 use native.Mathlib.Omega.{arith}
-use lib.ListN.{length}
-use Rattle.laws.specs.Below.{any_below, any_none, any_next, any_is, any_end}
-use Rattle.laws.specs.Links.{Chain}
-use Rattle.stored.specs.declared.Vertex.{Vertex}
-use Rattle.stored.specs.declared.Record.{Record}
+use Rattle.laws.specs.Below.{any_none, any_next, any_is, any_end}
 use Rattle.stored.specs.Layout.{vertex_in, record_in}
-use Rattle.check_refusals.specs.Refusals.{hangs_on}
-use Rattle.check_inside.specs.Cells.{place_key}
 use Rattle.check_inside.proofs.any_record.Invariants.{hang}
 use Rattle.check_inside.proofs.any_record.Goals as goal
 

@@ -1,11 +1,10 @@
 -- `check_inside::any_record` has found none before n.
 -- Assumes nothing.
 use Prim.Native.Nat.{ℕ, ◌≤◌, ◌<◌, ◌-◌}
-use mathlib.Core.Path.{◌≡◌, sym, ◌∙◌}
+use mathlib.Core.Path.{◌≡◌}
 use mathlib.Core.Bool.{Bool, false}
-use native.Mathlib.Omega.{arith}
 use lib.ListN.{length}
-use Rattle.laws.specs.Below.{any_below, any_none, any_next, any_is, any_end}
+use Rattle.laws.specs.Below.{any_below}
 use Rattle.laws.specs.Links.{Chain}
 use Rattle.stored.specs.declared.Vertex.{Vertex}
 use Rattle.stored.specs.declared.Record.{Record}
@@ -18,7 +17,7 @@ abbrev pub hang : (ℕ → Vertex) → (ℕ → Record) → ℕ → ℕ → Bool
 hang vertex_at record_at vertices n = any_below vertices (hangs_on vertex_at (record_at n).piece)
 
 abbrev pub invariant-loop-n : goal.invariant-loop-n
-invariant-loop-n l =     (l.n ≤ l.records)
+invariant-loop-n l = (l.n ≤ l.records)
     × (0 < length l.heads → Chain (λ v. place_key (length l.heads) l.width (vertex_in l.l l.base l.grown v).place) l.vertices l.heads l.nexts →
     any_below l.n (hang (vertex_in l.l l.base l.grown) (record_in l.l l.base l.grown) l.vertices) ≡ false)
 

@@ -1,15 +1,11 @@
 -- `check_inside::any_vertex` has found none before u that hangs on the piece.
 -- Assumes nothing.
-use Rattle.std.proofs.Common.{rules}
-use Prim.Native.Nat.{ℕ, ◌≤◌, ◌-◌}
-use mathlib.Core.Path.{◌≡◌, sym, ◌∙◌}
-use mathlib.Core.Bool.{Bool, false}
+use Prim.Native.Nat.{◌-◌}
+use mathlib.Core.Path.{sym, ◌∙◌}
+use mathlib.Core.Bool.{false}
 use native.Mathlib.Omega.{arith}
-use Rattle.laws.specs.Below.{any_below, any_none, any_next, any_is, any_end}
-use Rattle.stored.specs.declared.Vertex.{Vertex}
+use Rattle.laws.specs.Below.{any_none, any_next, any_is, any_end}
 use Rattle.stored.specs.Layout.{vertex_in}
-use Rattle.check_inside.specs.declared.Asking.{Asking}
-use Rattle.check_inside.specs.Cells.{hangs_among}
 use Rattle.check_inside.proofs.any_vertex.Invariants.{hang}
 use Rattle.check_inside.proofs.any_vertex.Goals as goal
 

@@ -1,6 +1,5 @@
 -- `check_inside::corner_of` reads where the vertex stands.
 -- Assumes nothing.
-use Rattle.std.proofs.Common.{rules}
 use Rattle.check_inside.proofs.corner_of.Goals as goal
 
 pub returns : goal.returns

@@ -1,6 +1,5 @@
 -- `check_inside::hanging_vertices` links the base vertices by cells, where there is room, and asks for each base record.
 -- Assumes nothing.
-use Rattle.std.proofs.Common.{rules}
 use mathlib.Core.Path.{sym, ◌∙◌}
 use Rattle.laws.specs.Links.{roomy}
 use Rattle.stored.specs.Layout.{vertex_in}

@@ -1,6 +1,5 @@
 -- `check_inside::hangs`: no corner, and in the piece where it stands.
 -- Assumes nothing.
-use Rattle.std.proofs.Common.{rules}
 use mathlib.Core.Path.{sym, ap, ◌∙◌}
 use Rattle.grid.specs.declared.Place.{Place}
 use Rattle.grid.specs.Places.{point_of}

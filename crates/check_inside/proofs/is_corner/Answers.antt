@@ -1,6 +1,5 @@
 -- `check_inside::is_corner`: each way out is the corner that v is, or the last.
 -- Assumes nothing.
-use Rattle.std.proofs.Common.{rules}
 use borrow.Author.Tests.{eq-eqb, ne_eqb}
 use Rattle.check_inside.specs.Cells.{is_corner}
 use Rattle.check_inside.proofs.is_corner.Goals as goal

@@ -1,6 +1,5 @@
 -- `check_inside::is_within`: each way out is one coordinate that is past the box, or the last.
 -- Assumes nothing.
-use Rattle.std.proofs.Common.{rules}
 use borrow.Author.Tests.{le-leb, lt-leb}
 use Rattle.check_inside.specs.Cells.{is_within}
 use Rattle.check_inside.proofs.is_within.Goals as goal

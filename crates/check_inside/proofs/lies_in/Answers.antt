@@ -1,6 +1,5 @@
 -- `check_inside::lies_in`: each way out is the first determinant that is negative, or the last.
 -- Assumes nothing.
-use Rattle.std.proofs.Common.{rules}
 use mathlib.Core.Path.{◌≡◌, refl, sym, ap, ◌∙◌}
 use mathlib.Core.Bool.{Bool, not}
 use mir.Syntax.{w64}

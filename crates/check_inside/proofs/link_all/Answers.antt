@@ -1,12 +1,11 @@
 -- `check_inside::link_all` has put in the vertices before v.
 -- Assumes nothing.
-use Rattle.std.proofs.Common.{rules}
-use Prim.Native.Nat.{ℕ, ◌≤◌, ◌-◌}
+use Prim.Native.Nat.{ℕ, ◌-◌}
 use mathlib.Core.Path.{◌≡◌, sym, ◌∙◌, ap, ap₂}
 use native.Mathlib.Numerals.{add-one}
 use native.Mathlib.Omega.{arith}
 use lib.ListN.{length}
-use Rattle.laws.specs.Links.{Links, links_of, links_are, pushed, linked_below, linked_none, linked_suc, linked_heads_long, linked_nexts_long}
+use Rattle.laws.specs.Links.{Links, links_of, links_are, pushed, linked_below, linked_none, linked_suc, linked_heads_long}
 use Rattle.stored.specs.Layout.{vertex_in}
 use Rattle.check_inside.specs.Cells.{place_key}
 use Rattle.check_inside.proofs.link_all.Goals as goal

@@ -1,6 +1,5 @@
 -- `check_inside::place_key` computes the key from the cell's numbers.
 -- Assumes nothing.
-use Rattle.std.proofs.Common.{rules}
 use Rattle.check_inside.specs.Cells.{place_key}
 use Rattle.check_inside.proofs.place_key.Goals as goal
 

@@ -1,6 +1,5 @@
 -- `check_inside::record_hangs`: a piece that is right-handed asks its cells, unless there are too many; any other asks all.
 -- Assumes nothing.
-use Rattle.std.proofs.Common.{rules}
 use borrow.Author.Tests.{eqb-false}
 use mathlib.Core.Path.{sym, ap, ap₂, ◌∙◌}
 use lib.IntN.{pos, nat_abs}

@@ -1,6 +1,5 @@
 -- `check_inside::slabs_of` takes the cell's number along each axis.
 -- Assumes nothing.
-use Rattle.std.proofs.Common.{rules}
 use Rattle.check_inside.specs.Cells.{slabs_of}
 use Rattle.check_inside.proofs.slabs_of.Goals as goal
 

@@ -1,8 +1,6 @@
 -- `check_inside::width_for`: n rises by one at least, and the mean of numbers below 65,536 is below it.
 -- Assumes nothing.
 use Prim.Native.Nat.{◌+◌, ◌*◌, ◌-◌, ◌≤◌}
-use native.Mathlib.Nat.{div-le_of_le-mul}
-use native.Mathlib.Omega.{arith}
 use Rattle.check_inside.proofs.width_for.Given as goal
 
 abbrev pub invariant-loop-n : goal.invariant-loop-n

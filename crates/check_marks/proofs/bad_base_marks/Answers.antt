@@ -1,11 +1,10 @@
 -- `check_marks::bad_base_marks` has found no bad record before n.
 -- Assumes nothing.
-use Rattle.std.proofs.Common.{rules}
-use Prim.Native.Nat.{◌≤◌, ◌-◌}
-use mathlib.Core.Path.{◌≡◌, sym, ◌∙◌}
+use Prim.Native.Nat.{◌-◌}
+use mathlib.Core.Path.{sym, ◌∙◌}
 use mathlib.Core.Bool.{false}
 use native.Mathlib.Omega.{arith}
-use Rattle.laws.specs.Below.{any_below, any_none, any_next, any_is, any_end}
+use Rattle.laws.specs.Below.{any_none, any_next, any_is, any_end}
 use Rattle.stored.specs.Layout.{record_in}
 use Rattle.check_refusals.specs.Refusals.{bad_marks, bad_base_marks}
 use Rattle.check_marks.proofs.bad_base_marks.Goals as goal

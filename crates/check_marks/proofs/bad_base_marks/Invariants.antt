@@ -1,12 +1,11 @@
 -- `check_marks::bad_base_marks` has found no bad record before n.
 -- Assumes nothing.
 use Prim.Native.Nat.{◌≤◌, ◌-◌}
-use mathlib.Core.Path.{◌≡◌, sym, ◌∙◌}
+use mathlib.Core.Path.{◌≡◌}
 use mathlib.Core.Bool.{false}
-use native.Mathlib.Omega.{arith}
-use Rattle.laws.specs.Below.{any_below, any_none, any_next, any_is, any_end}
+use Rattle.laws.specs.Below.{any_below}
 use Rattle.stored.specs.Layout.{record_in}
-use Rattle.check_refusals.specs.Refusals.{bad_marks, bad_base_marks}
+use Rattle.check_refusals.specs.Refusals.{bad_marks}
 use Rattle.check_marks.proofs.bad_base_marks.Given as goal
 
 abbrev pub invariant-loop-n : goal.invariant-loop-n

@@ -1,13 +1,10 @@
 -- `check_marks::bad_mark_in` has found every mark before i to fit.
 -- Assumes nothing.
-use Rattle.std.proofs.Common.{rules}
-use Prim.Native.Nat.{ℕ, ◌≤◌, ◌-◌}
-use mathlib.Core.Path.{◌≡◌, sym}
-use mathlib.Core.Bool.{Bool, false, not}
-use mathlib.Core.List.{List}
+use Prim.Native.Nat.{◌-◌}
+use mathlib.Core.Path.{sym}
+use mathlib.Core.Bool.{false, not}
 use native.Mathlib.Omega.{arith}
-use lib.ListN.{get_or}
-use Rattle.laws.specs.Below.{any_below, any_none, any_next, any_is, any_end}
+use Rattle.laws.specs.Below.{any_none, any_next, any_is, any_end}
 use Rattle.piece.specs.Shape.{mark_fits}
 use mathlib.Core.Path.{ap}
 use Rattle.check_marks.proofs.bad_mark_in.Invariants.{unfit}

@@ -1,14 +1,12 @@
 -- `check_marks::bad_mark_in` has found every mark before i to fit.
 -- Assumes nothing.
 use Prim.Native.Nat.{ℕ, ◌≤◌, ◌-◌}
-use mathlib.Core.Path.{◌≡◌, sym}
+use mathlib.Core.Path.{◌≡◌}
 use mathlib.Core.Bool.{Bool, false, not}
 use mathlib.Core.List.{List}
-use native.Mathlib.Omega.{arith}
 use lib.ListN.{get_or}
-use Rattle.laws.specs.Below.{any_below, any_none, any_next, any_is, any_end}
+use Rattle.laws.specs.Below.{any_below}
 use Rattle.piece.specs.Shape.{mark_fits}
-use mathlib.Core.Path.{ap}
 use Rattle.check_marks.proofs.bad_mark_in.Given as goal
 
 -- The mark of face i does not fit.

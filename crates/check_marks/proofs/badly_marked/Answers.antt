@@ -1,6 +1,5 @@
 -- `check_marks::badly_marked`: each way out is one case of the definition, at what the calls return.
 -- Assumes nothing.
-use Rattle.std.proofs.Common.{rules}
 use borrow.Author.Tests.{lt-ltb, le-ltb}
 use mathlib.Core.Path.{◌≡◌, ◌∙◌}
 use mathlib.Core.Bool.{Bool, not}

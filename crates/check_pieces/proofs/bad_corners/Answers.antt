@@ -1,6 +1,5 @@
 -- `check_pieces::bad_corners`: equal corners, or one not in the base.
 -- Assumes nothing.
-use Rattle.std.proofs.Common.{rules}
 use mathlib.Core.Path.{sym, ◌∙◌}
 use Rattle.check_refusals.specs.Refusals.{bad_corners}
 use Rattle.check_pieces.proofs.bad_corners.Goals as goal

@@ -1,15 +1,11 @@
 -- `check_pieces::corner_not_in_base` has found every corner before k in the base.
 -- Assumes nothing.
-use Rattle.std.proofs.Common.{rules}
 use borrow.Author.Tests.{le-leb, lt-leb}
-use Prim.Native.Nat.{ℕ, ◌≤◌, ◌-◌}
-use mathlib.Core.Path.{◌≡◌, sym}
-use mathlib.Core.Bool.{Bool, false}
-use mathlib.Core.List.{List}
+use Prim.Native.Nat.{◌-◌}
+use mathlib.Core.Path.{sym}
+use mathlib.Core.Bool.{false}
 use native.Mathlib.Omega.{arith}
-use lib.ListN.{get_or}
-use lib.Dec.{leb}
-use Rattle.laws.specs.Below.{any_below, any_none, any_next, any_is, any_end}
+use Rattle.laws.specs.Below.{any_none, any_next, any_is, any_end}
 use Rattle.check_refusals.specs.Refusals.{corner_not_in_base}
 use Rattle.check_pieces.proofs.corner_not_in_base.Invariants.{beyond}
 use Rattle.check_pieces.proofs.corner_not_in_base.Goals as goal

@@ -1,15 +1,12 @@
 -- `check_pieces::corner_not_in_base` has found every corner before k in the base.
 -- Assumes nothing.
-use borrow.Author.Tests.{le-leb, lt-leb}
 use Prim.Native.Nat.{ℕ, ◌≤◌, ◌-◌}
-use mathlib.Core.Path.{◌≡◌, sym}
+use mathlib.Core.Path.{◌≡◌}
 use mathlib.Core.Bool.{Bool, false}
 use mathlib.Core.List.{List}
-use native.Mathlib.Omega.{arith}
 use lib.ListN.{get_or}
 use lib.Dec.{leb}
-use Rattle.laws.specs.Below.{any_below, any_none, any_next, any_is, any_end}
-use Rattle.check_refusals.specs.Refusals.{corner_not_in_base}
+use Rattle.laws.specs.Below.{any_below}
 use Rattle.check_pieces.proofs.corner_not_in_base.Given as goal
 
 -- Corner k is not among the first count vertices.

@@ -1,6 +1,5 @@
 -- `check_pieces::equal_corners`: each way out is the edge at which the ends are equal, or the last.
 -- Assumes nothing.
-use Rattle.std.proofs.Common.{rules}
 use borrow.Author.Tests.{eq-eqb, ne_eqb}
 use Rattle.laws.specs.Below.{any_below, fold_below}
 use Rattle.piece_edges.specs.Edges.{low_slot, high_slot}

@@ -1,6 +1,5 @@
 -- `check_pieces::or_before`: 0 or not.
 -- Assumes nothing.
-use Rattle.std.proofs.Common.{rules}
 use borrow.Author.Tests.{eq-eqb, ne_eqb}
 use Rattle.check_pieces.proofs.or_before.Goals as goal
 

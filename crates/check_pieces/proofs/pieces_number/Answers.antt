@@ -1,14 +1,12 @@
 -- `check_pieces::pieces_number` has found no bad record before n, and knows whether one was left-handed.
 -- Assumes nothing.
-use Rattle.std.proofs.Common.{rules}
-use Prim.Native.Nat.{◌≤◌, ◌-◌}
-use mathlib.Core.Path.{◌≡◌}
+use Prim.Native.Nat.{◌-◌}
 use mathlib.Core.Bool.{false}
 use native.Mathlib.Omega.{arith}
-use Rattle.laws.specs.Below.{any_below, any_none, any_next}
+use Rattle.laws.specs.Below.{any_none, any_next}
 use Rattle.mesh_tables.specs.Tables.{tables}
 use Rattle.check_refusals.specs.Refusals.{bad_base_record}
-use Rattle.check_pieces.specs.Pieces.{left_below, found_5, not_5, left_none, left_next, pieces_5, pieces_end}
+use Rattle.check_pieces.specs.Pieces.{found_5, not_5, left_none, left_next, pieces_5, pieces_end}
 use Rattle.check_pieces.proofs.pieces_number.Goals as goal
 
 pub loop-n-init : goal.loop-n-init

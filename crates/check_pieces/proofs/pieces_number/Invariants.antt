@@ -3,11 +3,10 @@
 use Prim.Native.Nat.{◌≤◌, ◌-◌}
 use mathlib.Core.Path.{◌≡◌}
 use mathlib.Core.Bool.{false}
-use native.Mathlib.Omega.{arith}
-use Rattle.laws.specs.Below.{any_below, any_none, any_next}
+use Rattle.laws.specs.Below.{any_below}
 use Rattle.mesh_tables.specs.Tables.{tables}
 use Rattle.check_refusals.specs.Refusals.{bad_base_record}
-use Rattle.check_pieces.specs.Pieces.{left_below, found_5, not_5, left_none, left_next, pieces_5, pieces_end}
+use Rattle.check_pieces.specs.Pieces.{left_below}
 use Rattle.check_pieces.proofs.pieces_number.Given as goal
 
 abbrev pub invariant-loop-n : goal.invariant-loop-n

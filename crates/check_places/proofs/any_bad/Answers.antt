@@ -1,16 +1,12 @@
 -- `check_places::any_bad` has found no bad vertex before v, and has linked those before v, in lists as long as they were.
 -- Assumes nothing.
-use Rattle.std.proofs.Common.{rules}
-use Prim.Native.Nat.{◌≤◌, ◌-◌}
-use mathlib.Core.Path.{◌≡◌, refl, sym, ◌∙◌}
+use Prim.Native.Nat.{◌-◌}
+use mathlib.Core.Path.{refl, sym, ◌∙◌}
 use mathlib.Core.Bool.{false}
 use native.Mathlib.Omega.{arith}
-use lib.ListN.{length}
-use Rattle.laws.specs.Links.{Empty}
-use Rattle.laws.specs.Below.{any_below, any_none, any_next, any_is, any_end}
-use Rattle.mesh_tables.specs.Tables.{tables}
+use Rattle.laws.specs.Below.{any_none, any_next, any_is, any_end}
 use Rattle.check_refusals.specs.Refusals.{bad_vertex, bad_vertices}
-use Rattle.check_places.specs.Kept.{VerticesKept, none_kept, vertex_kept}
+use Rattle.check_places.specs.Kept.{none_kept, vertex_kept}
 use Rattle.check_places.proofs.any_bad.Goals as goal
 
 pub loop-v-init : goal.loop-v-init

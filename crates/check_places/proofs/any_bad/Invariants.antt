@@ -1,19 +1,18 @@
 -- `check_places::any_bad` has found no bad vertex before v, and has linked those before v, in lists as long as they were.
 -- Assumes nothing.
 use Prim.Native.Nat.{◌≤◌, ◌-◌}
-use mathlib.Core.Path.{◌≡◌, refl, sym, ◌∙◌}
+use mathlib.Core.Path.{◌≡◌}
 use mathlib.Core.Bool.{false}
-use native.Mathlib.Omega.{arith}
 use lib.ListN.{length}
 use Rattle.laws.specs.Links.{Empty}
-use Rattle.laws.specs.Below.{any_below, any_none, any_next, any_is, any_end}
+use Rattle.laws.specs.Below.{any_below}
 use Rattle.mesh_tables.specs.Tables.{tables}
-use Rattle.check_refusals.specs.Refusals.{bad_vertex, bad_vertices}
-use Rattle.check_places.specs.Kept.{VerticesKept, none_kept, vertex_kept}
+use Rattle.check_refusals.specs.Refusals.{bad_vertex}
+use Rattle.check_places.specs.Kept.{VerticesKept}
 use Rattle.check_places.proofs.any_bad.Given as goal
 
 abbrev pub invariant-loop-v : goal.invariant-loop-v
-invariant-loop-v l =     (l.v ≤ l.h.vertices)
+invariant-loop-v l = (l.v ≤ l.h.vertices)
     × (Empty l.initial.heads → (any_below l.v (bad_vertex (tables l.h l.l l.base l.grown)) ≡ false) × VerticesKept (tables l.h l.l l.base l.grown) l.v l.heads l.nexts)
     × (length l.heads ≡ length l.initial.heads)
     × (length l.nexts ≡ length l.initial.nexts)

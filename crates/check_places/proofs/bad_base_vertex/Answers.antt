@@ -1,7 +1,6 @@
 -- `check_places::bad_base_vertex`: each way out is one case of the definition, at what the calls return.
 -- Assumes nothing.
-use Rattle.std.proofs.Common.{rules}
-use borrow.Author.Tests.{eq-eqb, ne_eqb, not-true, not-false}
+use borrow.Author.Tests.{eq-eqb, ne_eqb}
 use Rattle.check_refusals.specs.Refusals.{bad_base_vertex}
 use Rattle.check_places.proofs.bad_base_vertex.Goals as goal
 

@@ -1,6 +1,5 @@
 -- `check_places::bad_vertex`: each way out is one case of the definition, at what the calls return.
 -- Assumes nothing.
-use Rattle.std.proofs.Common.{rules}
 use borrow.Author.Tests.{lt-ltb, le-ltb}
 use Rattle.check_refusals.specs.Refusals.{bad_vertex}
 use Rattle.check_places.specs.Kept.{place_twice_lem}

@@ -1,6 +1,5 @@
 -- `check_places::bad_vertices`: lists that are too short refuse, else each vertex is judged.
 -- Assumes nothing.
-use Rattle.std.proofs.Common.{rules}
 use mathlib.Core.Path.{sym, ◌∙◌}
 use Rattle.laws.specs.Links.{roomy}
 use Rattle.check_places.proofs.bad_vertices.Goals as goal

@@ -1,6 +1,5 @@
 -- `check_places::link_vertex` puts the vertex in under its key.
 -- Assumes nothing.
-use Rattle.std.proofs.Common.{rules}
 use Rattle.check_places.proofs.link_vertex.Goals as goal
 
 pub returns : goal.returns

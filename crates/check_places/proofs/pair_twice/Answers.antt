@@ -1,6 +1,5 @@
 -- `check_places::pair_twice` looks for the vertex's own parents along the links.
 -- Assumes nothing.
-use Rattle.std.proofs.Common.{rules}
 use Rattle.check_places.specs.Kept.{pair_twice_lem}
 use Rattle.check_places.proofs.pair_twice.Goals as goal
 

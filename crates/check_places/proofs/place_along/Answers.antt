@@ -1,12 +1,9 @@
 -- `check_places::place_along` finds from where it is on what is found from the head on.
 -- Assumes nothing.
-use Rattle.std.proofs.Common.{rules}
 use Prim.Native.Nat.{◌-◌}
 use mathlib.Core.Path.{◌≡◌, sym, ◌∙◌}
 use native.Mathlib.Omega.{arith}
-use Rattle.laws.specs.Links.{any_along, any_along_none, any_along_found, any_along_past, link_down}
-use Rattle.grid.specs.Places.{same_place}
-use Rattle.stored.specs.Layout.{vertex_in}
+use Rattle.laws.specs.Links.{any_along_none, any_along_found, any_along_past, link_down}
 use Rattle.check_places.specs.Kept.{place_along}
 use Rattle.check_places.proofs.place_along.Goals as goal
 

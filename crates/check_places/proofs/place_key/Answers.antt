@@ -1,6 +1,5 @@
 -- `check_places::place_key` computes the key.
 -- Assumes nothing.
-use Rattle.std.proofs.Common.{rules}
 use Rattle.check_places.specs.Kept.{place_key}
 use Rattle.check_places.proofs.place_key.Goals as goal
 

@@ -1,6 +1,5 @@
 -- `check_places::stands_at` reads the vertex's place.
 -- Assumes nothing.
-use Rattle.std.proofs.Common.{rules}
 use mathlib.Core.Path.{◌∙◌, ap}
 use Rattle.grid.specs.declared.Place.{Place}
 use Rattle.grid.specs.Places.{same_place}

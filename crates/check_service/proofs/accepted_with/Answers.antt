@@ -1,6 +1,5 @@
 -- `check_service::accepted_with`: the figures that the calls return.
 -- Assumes nothing.
-use Rattle.std.proofs.Common.{rules}
 use native.Mathlib.Nat.{mod-eq_of_lt}
 use Rattle.check_service.proofs.accepted_with.Goals as goal
 

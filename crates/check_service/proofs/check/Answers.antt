@@ -1,6 +1,5 @@
 -- `check_service::check`: a refusal is whole, and what is accepted gets the figures of its tables.
 -- Assumes nothing.
-use Rattle.std.proofs.Common.{rules}
 use mathlib.Core.Path.{◌≡◌, sym, ap, ◌∙◌}
 use Rattle.check_refusals.specs.declared.Report.{Report}
 use Rattle.stored.specs.Layout.{stored1}

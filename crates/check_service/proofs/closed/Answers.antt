@@ -1,6 +1,5 @@
 -- `check_service::closed`: what the search found is what is reported.
 -- Assumes nothing.
-use Rattle.std.proofs.Common.{rules}
 use mathlib.Core.Path.{sym, ap, ◌∙◌}
 use Rattle.check_hanging.specs.Hanging.{reported, roomy_found}
 use Rattle.check_service.proofs.closed.Goals as goal

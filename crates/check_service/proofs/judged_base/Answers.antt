@@ -1,6 +1,5 @@
 -- `check_service::judged_base`: each way out is the first rule broken, at what the calls return; what is lent has room, so each rule is what it is.
 -- Assumes nothing.
-use Rattle.std.proofs.Common.{rules}
 use mathlib.Core.Path.{◌≡◌, refl, sym, ◌∙◌, ap}
 use mathlib.Core.Bool.{Bool, ◌||◌}
 use borrow.Author.Tests.{le-ltb}

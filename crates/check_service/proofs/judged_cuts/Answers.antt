@@ -1,6 +1,5 @@
 -- `check_service::judged_cuts`: refusal 9, or what the search found; what is lent has room.
 -- Assumes nothing.
-use Rattle.std.proofs.Common.{rules}
 use mathlib.Core.Path.{◌≡◌, sym, ◌∙◌, ap}
 use mathlib.Core.Bool.{Bool, ◌||◌}
 use Rattle.mesh_tables.specs.Tables.{tables}

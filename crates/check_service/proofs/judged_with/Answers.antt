@@ -1,6 +1,5 @@
 -- `check_service::judged_with`: the base's refusal, or what the cuts have. What the base's rules leave in the lists is as long as it was.
 -- Assumes nothing.
-use Rattle.std.proofs.Common.{rules}
 use borrow.Author.Tests.{ne_eqb, eq-eqb}
 use Rattle.check_service.specs.Order.{judged_report}
 use Rattle.check_service.proofs.judged_with.Goals as goal

@@ -1,6 +1,5 @@
 -- `check_service::wrong_counts`: each way out is one case of the definition, at what the calls return.
 -- Assumes nothing.
-use Rattle.std.proofs.Common.{rules}
 use borrow.Author.Tests.{lt-ltb, le-ltb}
 use Rattle.check_refusals.specs.Refusals.{wrong_counts}
 use Rattle.check_service.proofs.wrong_counts.Goals as goal

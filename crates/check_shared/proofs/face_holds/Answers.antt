@@ -1,6 +1,5 @@
 -- `check_shared::face_holds`: each way out is one case of the definition.
 -- Assumes nothing.
-use Rattle.std.proofs.Common.{rules}
 use borrow.Author.Tests.{eq-eqb, ne_eqb}
 use Rattle.check_shared.specs.Faces.{holds}
 use Rattle.check_shared.proofs.face_holds.Goals as goal

@@ -1,8 +1,6 @@
 -- `check_shared::face_inside`: each way out is one case of the definition, at what the calls return.
 -- Assumes nothing.
-use Rattle.std.proofs.Common.{rules}
 use mathlib.Core.Path.{sym, ◌∙◌}
-use borrow.Author.Tests.{not-true, not-false}
 use Rattle.check_shared.specs.Faces.{inside}
 use Rattle.check_shared.proofs.face_inside.Goals as goal
 

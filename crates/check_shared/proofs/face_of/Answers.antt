@@ -1,6 +1,5 @@
 -- `check_shared::face_of`: each corner is what the call returns.
 -- Assumes nothing.
-use Rattle.std.proofs.Common.{rules}
 use Rattle.check_shared.specs.Faces.{face_of}
 use Rattle.check_shared.proofs.face_of.Goals as goal
 

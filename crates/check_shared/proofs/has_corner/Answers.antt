@@ -1,6 +1,5 @@
 -- `check_shared::has_corner`: each way out is one case of the definition.
 -- Assumes nothing.
-use Rattle.std.proofs.Common.{rules}
 use borrow.Author.Tests.{eq-eqb, ne_eqb}
 use Rattle.check_shared.specs.Rest.{has}
 use Rattle.check_shared.proofs.has_corner.Goals as goal

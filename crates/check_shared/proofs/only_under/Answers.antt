@@ -1,6 +1,5 @@
 -- `check_shared::only_under`: each way out is one case of the definition.
 -- Assumes nothing.
-use Rattle.std.proofs.Common.{rules}
 use borrow.Author.Tests.{lt-ltb, le-ltb}
 use Rattle.check_shared.specs.Sums.{under}
 use Rattle.check_shared.proofs.only_under.Goals as goal

@@ -1,6 +1,5 @@
 -- `check_shared::same_face`: each way out is one case of the definition, at what the calls return.
 -- Assumes nothing.
-use Rattle.std.proofs.Common.{rules}
 use mathlib.Core.Path.{sym, ◌∙◌}
 use Rattle.check_shared.specs.Faces.{same_set}
 use Rattle.check_shared.proofs.same_face.Goals as goal

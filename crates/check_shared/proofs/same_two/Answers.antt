@@ -1,6 +1,5 @@
 -- `check_shared::same_two`: each way out is one case of the definition.
 -- Assumes nothing.
-use Rattle.std.proofs.Common.{rules}
 use borrow.Author.Tests.{eq-eqb, ne_eqb}
 use Rattle.check_shared.specs.Marks.{same_two}
 use Rattle.check_shared.proofs.same_two.Goals as goal

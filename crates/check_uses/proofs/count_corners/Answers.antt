@@ -1,6 +1,5 @@
 -- `check_uses::count_corners`: one use after the other.
 -- Assumes nothing.
-use Rattle.std.proofs.Common.{rules}
 use Rattle.check_uses.specs.Uses.{used_by}
 use Rattle.check_uses.proofs.count_corners.Goals as goal
 

@@ -1,6 +1,5 @@
 -- `check_uses::count_record` counts the record's corners.
 -- Assumes nothing.
-use Rattle.std.proofs.Common.{rules}
 use Rattle.check_uses.proofs.count_record.Goals as goal
 
 pub returns : goal.returns

@@ -1,13 +1,12 @@
 -- `check_uses::count_records` has counted the records before n.
 -- Assumes nothing.
-use Rattle.std.proofs.Common.{rules}
-use Prim.Native.Nat.{◌≤◌, ◌-◌}
-use mathlib.Core.Path.{◌≡◌, sym, ◌∙◌, ap}
+use Prim.Native.Nat.{◌-◌}
+use mathlib.Core.Path.{sym, ◌∙◌, ap}
 use native.Mathlib.Omega.{arith}
 use lib.ListN.{length}
-use Rattle.laws.specs.Counts.{counts_below, counts_none, counts_next, counts_end, counts_long}
+use Rattle.laws.specs.Counts.{counts_none, counts_next, counts_end, counts_long}
 use Rattle.stored.specs.Layout.{record_in}
-use Rattle.check_uses.specs.Uses.{used_by, uses_marking}
+use Rattle.check_uses.specs.Uses.{uses_marking}
 use Rattle.check_uses.proofs.count_records.Goals as goal
 
 pub loop-n-init : goal.loop-n-init

@@ -1,12 +1,10 @@
 -- `check_uses::count_records` has counted the records before n.
 -- Assumes nothing.
 use Prim.Native.Nat.{◌≤◌, ◌-◌}
-use mathlib.Core.Path.{◌≡◌, sym, ◌∙◌, ap}
-use native.Mathlib.Omega.{arith}
-use lib.ListN.{length}
-use Rattle.laws.specs.Counts.{counts_below, counts_none, counts_next, counts_end, counts_long}
+use mathlib.Core.Path.{◌≡◌}
+use Rattle.laws.specs.Counts.{counts_below}
 use Rattle.stored.specs.Layout.{record_in}
-use Rattle.check_uses.specs.Uses.{used_by, uses_marking}
+use Rattle.check_uses.specs.Uses.{used_by}
 use Rattle.check_uses.proofs.count_records.Given as goal
 
 abbrev pub invariant-loop-n : goal.invariant-loop-n

@@ -1,6 +1,5 @@
 -- `check_uses::unused_vertices`: a table that is too short refuses; else it is cleared, filled and read, and is the rule's.
 -- Assumes nothing.
-use Rattle.std.proofs.Common.{rules}
 use mathlib.Core.Path.{◌≡◌, ◌∙◌, ap}
 use mathlib.Core.List.{List}
 use Prim.Native.Nat.{ℕ}

@@ -1,5 +1,4 @@
 -- `grid::coordinate_on_grid` meets its contract: 32,768 is a multiple of 32, so places are on the grid as their coordinates are. Assumes nothing.
-use Rattle.std.proofs.Common.{rules}
 use native.Mathlib.Omega.{arith}
 use Rattle.grid.specs.PlaceLaws.{off_multiple, off_below, on_grid_is}
 use Rattle.grid.proofs.coordinate_on_grid.Goals as goal

@@ -1,5 +1,4 @@
 -- `grid::halfway` meets its contract, coordinate by coordinate. Assumes nothing.
-use Rattle.std.proofs.Common.{rules}
 use Rattle.grid.specs.Places.{halfway_of}
 use Rattle.grid.proofs.halfway.Goals as goal
 

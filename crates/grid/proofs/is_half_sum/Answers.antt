@@ -1,5 +1,4 @@
 -- `grid::is_half_sum` meets its contract: a u32 holds both sums, and the test is the definition's. Assumes nothing.
-use Rattle.std.proofs.Common.{rules}
 use mathlib.Core.Path.{refl}
 use Rattle.grid.proofs.is_half_sum.Goals as goal
 

@@ -1,6 +1,4 @@
 -- `grid::is_halfway` meets its contract: each return answers by the first coordinate that is not half the sum. Assumes nothing.
-use Rattle.std.proofs.Common.{rules}
-use borrow.Author.Tests.{not-true, not-false}
 use Rattle.grid.specs.Places.{is_halfway}
 use Rattle.grid.proofs.is_halfway.Goals as goal
 

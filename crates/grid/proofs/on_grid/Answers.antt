@@ -1,6 +1,4 @@
 -- `grid::on_grid` meets its contract: each return answers by the first coordinate that is off the grid. Assumes nothing.
-use Rattle.std.proofs.Common.{rules}
-use borrow.Author.Tests.{not-true, not-false}
 use Rattle.grid.specs.Places.{on_grid}
 use Rattle.grid.proofs.on_grid.Goals as goal
 

@@ -1,5 +1,4 @@
 -- `grid::same_place` meets its contract: each return answers by the first coordinate that differs. Assumes nothing.
-use Rattle.std.proofs.Common.{rules}
 use borrow.Author.Tests.{eq-eqb, ne_eqb}
 use Rattle.grid.specs.Places.{same_place}
 use Rattle.grid.proofs.same_place.Goals as goal

@@ -1,5 +1,4 @@
 -- `grid_lengths::ranks_before` meets its contract: each return answers by the first of length, lower and higher number that differs. Assumes nothing.
-use Rattle.std.proofs.Common.{rules}
 use borrow.Author.Tests.{lt-ltb, le-ltb, eq-eqb, ne_eqb}
 use Rattle.grid_lengths.specs.Lengths.{ranks_before}
 use Rattle.grid_lengths.proofs.ranks_before.Goals as goal

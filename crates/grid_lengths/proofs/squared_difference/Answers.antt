@@ -1,5 +1,4 @@
 -- `grid_lengths::squared_difference` meets its contract, by the law for each order of the two places. Assumes nothing.
-use Rattle.std.proofs.Common.{rules}
 use native.Mathlib.Omega.{arith}
 use Rattle.grid_lengths.specs.LengthLaws.{squared_up, squared_down}
 use Rattle.grid_lengths.proofs.squared_difference.Goals as goal

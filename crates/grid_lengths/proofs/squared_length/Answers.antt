@@ -1,8 +1,6 @@
 -- `grid_lengths::squared_length` meets its contract: a squared length is the sum of three squares, each small enough. Assumes nothing.
-use Rattle.std.proofs.Common.{rules}
 use mathlib.Core.Path.{◌≡◌, sym, ◌∙◌}
 use Prim.Native.Nat.{ℕ, ◌+◌}
-use native.Mathlib.Omega.{arith}
 use Rattle.grid.specs.Places.{point_of}
 use Rattle.grid_lengths.specs.LengthLaws.{squared_length_is}
 use Rattle.grid_lengths.proofs.squared_length.Goals as goal

@@ -1,5 +1,4 @@
 -- `grid_volume::determinant` meets its contract: minors and the row's sum are what the definition has, and nothing overflows. Assumes nothing.
-use Rattle.std.proofs.Common.{rules}
 use Rattle.grid_volume.specs.VolumeLaws.{entry_passed, minor_returned, determinant_returned}
 use Rattle.grid_volume.specs.Exact.{bounded}
 use Rattle.grid_volume.proofs.determinant.Goals as goal

@@ -1,5 +1,4 @@
 -- `grid_volume::difference` meets its contract: a place's numbers are read as they are, and their differences are small. Assumes nothing.
-use Rattle.std.proofs.Common.{rules}
 use native.Mathlib.Omega.{arith}
 use Rattle.grid_volume.specs.Exact.{unsigned, difference, fits, stored}
 use Rattle.grid_volume.specs.VolumeLaws.{difference_of_places}

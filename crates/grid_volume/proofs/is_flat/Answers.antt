@@ -1,6 +1,5 @@
 -- `grid_volume::is_flat`: the bits of a number are 0 exactly where it is.
 -- Assumes nothing.
-use Rattle.std.proofs.Common.{rules}
 use mathlib.Core.Path.{◌≡◌, sym, ap, ◌∙◌}
 use mathlib.Core.Logic.{⊎_elim}
 use lib.Dec.{eqb}

@@ -1,5 +1,4 @@
 -- `grid_volume::minor` meets its contract: products of two entries and their difference are far below 2 ^ 63. Assumes nothing.
-use Rattle.std.proofs.Common.{rules}
 use Rattle.grid_volume.specs.Exact.{passed, difference, product, fits, stored}
 use Rattle.grid.specs.Places.{greatest_place}
 use Rattle.grid_volume.proofs.minor.Goals as goal

@@ -1,5 +1,4 @@
 -- `grid_volume::row_sum` meets its contract: three products of an entry and a minor add up to far below 2 ^ 63. Assumes nothing.
-use Rattle.std.proofs.Common.{rules}
 use lib.IntN.{ℤ, nat_abs, ◌*ℤ◌}
 use Prim.Native.Nat.{◌*◌, ◌^◌, ◌≤◌}
 use Rattle.grid_volume.specs.Exact.{Holds, read_back, passed, sum, difference, product, fits, stored}

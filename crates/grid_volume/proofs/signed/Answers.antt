@@ -1,5 +1,4 @@
 -- `grid_volume::signed` meets its contract: the rows are the corners' differences, small enough for the determinant. Assumes nothing.
-use Rattle.std.proofs.Common.{rules}
 use mathlib.Core.Path.{◌∙◌}
 use mathlib.Core.List.{[], ◌∷◌}
 use mir.Syntax.{w64}

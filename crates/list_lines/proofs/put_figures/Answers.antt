@@ -1,6 +1,5 @@
 -- `list_lines::put_figures`: check's three figures, one behind the other.
 -- Assumes nothing.
-use Rattle.std.proofs.Common.{rules}
 use mathlib.Core.List.{[], ◌∷◌}
 use Rattle.list_text.specs.Text.{word}
 use Rattle.list_text.specs.Line.{line}

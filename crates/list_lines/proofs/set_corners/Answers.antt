@@ -1,6 +1,5 @@
 -- `list_lines::set_corners`: the number, and each corner as the piece has it.
 -- Assumes nothing.
-use Rattle.std.proofs.Common.{rules}
 use Prim.Native.Nat.{ℕ}
 use Prim.Native.String.{String}
 use mathlib.Core.List.{List, [], ◌∷◌}

@@ -1,6 +1,5 @@
 -- `list_lines::set_leaf`: the number and the corners, the edge and the generation, the line feed.
 -- Assumes nothing.
-use Rattle.std.proofs.Common.{rules}
 use mathlib.Core.Path.{◌∙◌, sym, ap}
 use Prim.Native.Nat.{ℕ}
 use mathlib.Core.List.{List, ◌++◌}

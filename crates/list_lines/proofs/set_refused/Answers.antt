@@ -1,6 +1,5 @@
 -- `list_lines::set_refused`: the word, the number and the line feed.
 -- Assumes nothing.
-use Rattle.std.proofs.Common.{rules}
 use mathlib.Core.List.{[], ◌∷◌}
 use Rattle.list_text.specs.Text.{word, figures, line_feed}
 use Rattle.list_text.specs.Line.{line}

@@ -1,6 +1,5 @@
 -- `list_service::list`: the whole listing, or a clear buffer where there is no room for it.
 -- Assumes nothing.
-use Rattle.std.proofs.Common.{rules}
 use mathlib.Core.Path.{◌∙◌}
 use native.Mathlib.Omega.{arith}
 use lib.ListN.{length}

@@ -1,6 +1,5 @@
 -- `list_service::put_heading`: the line is whole in its buffer.
 -- Assumes nothing.
-use Rattle.std.proofs.Common.{rules}
 use mathlib.Core.Path.{◌≡◌, ◌∙◌}
 use Rattle.list_lines.specs.Lines.{heading_line}
 use Rattle.list_service.specs.Putting.{set_whole}

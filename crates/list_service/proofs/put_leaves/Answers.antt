@@ -1,7 +1,6 @@
 -- `list_service::put_leaves` has put the leaves below n.
 -- Assumes nothing.
-use Rattle.std.proofs.Common.{rules}
-use Prim.Native.Nat.{◌-◌, ◌^◌, ◌≤◌, ◌<◌}
+use Prim.Native.Nat.{◌-◌, ◌^◌, ◌<◌}
 use mathlib.Core.Path.{◌≡◌, ◌∙◌}
 use mathlib.Core.List.{[]}
 use native.Mathlib.Nat.{le_antisymm}
@@ -11,7 +10,7 @@ use Rattle.stored.specs.Layout.{stored1, header_of, layout_of}
 use Rattle.stored.specs.Fitting.{record_fits}
 use Rattle.mesh_tables.specs.Tables.{tables, tables_of}
 use Rattle.list_service.specs.Listing.{leaf_lines, text_of}
-use Rattle.list_service.specs.Putting.{TextPut, put_none, put_then, put_length, leaves_none}
+use Rattle.list_service.specs.Putting.{put_none, put_then, put_length, leaves_none}
 use Rattle.list_service.proofs.Putting.{leaves_next, leaves_long}
 use Rattle.list_service.proofs.put_leaves.Goals as goal
 

@@ -1,6 +1,5 @@
 -- `list_service::put_listing`: one line for what is longer than the largest mesh, else check's judgement.
 -- Assumes nothing.
-use Rattle.std.proofs.Common.{rules}
 use mathlib.Core.Path.{sym, ◌∙◌, ap}
 use Rattle.check_refusals.specs.declared.Report.{Report}
 use Rattle.list_service.specs.Putting.{longer_text, longer_number, judged_text, judged_number_lem}

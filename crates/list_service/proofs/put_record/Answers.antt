@@ -1,10 +1,8 @@
 -- `list_service::put_record`: a record's line, if it is a leaf.
 -- Assumes nothing.
-use Rattle.std.proofs.Common.{rules}
 use mathlib.Core.Path.{sym, ◌∙◌}
 use mathlib.Core.List.{[]}
 use native.Mathlib.Omega.{arith}
-use borrow.Author.Tests.{not-true, not-false}
 use Rattle.laws.specs.Lists.{Bytes, bytes_none}
 use Rattle.stored.specs.Layout.{record_in}
 use Rattle.stored.specs.Fitting.{record_fits}

@@ -1,6 +1,5 @@
 -- `list_service::put_refused`: the line is whole in its buffer.
 -- Assumes nothing.
-use Rattle.std.proofs.Common.{rules}
 use mathlib.Core.Path.{◌≡◌, ◌∙◌}
 use native.Mathlib.Omega.{arith}
 use Rattle.list_lines.specs.Lines.{refused_line}

@@ -1,6 +1,5 @@
 -- `list_service::too_short`: 20 where there is no other number.
 -- Assumes nothing.
-use Rattle.std.proofs.Common.{rules}
 use borrow.Author.Tests.{eq-eqb, ne_eqb}
 use Rattle.list_service.proofs.too_short.Goals as goal
 

@@ -1,6 +1,5 @@
 -- `list_text::bytes_at`: the bytes are put, and the place is behind them.
 -- Assumes nothing.
-use Rattle.std.proofs.Common.{rules}
 use mathlib.Core.Path.{◌≡◌, ◌∙◌, ap}
 use Prim.Native.Nat.{ℕ, ◌+◌, min}
 use mathlib.Core.List.{List}

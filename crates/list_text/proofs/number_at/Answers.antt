@@ -1,6 +1,5 @@
 -- `list_text::number_at`: the library's digits are the decimal digits.
 -- Assumes nothing.
-use Rattle.std.proofs.Common.{rules}
 use mathlib.Core.Path.{◌∙◌, ap}
 use Prim.Native.Nat.{ℕ}
 use mathlib.Core.List.{List}

@@ -1,5 +1,4 @@
 -- `list_writer::end` meets its contract: the byte that it puts is the line feed.
-use Rattle.std.proofs.Common.{rules}
 use Rattle.list_text.specs.Text.{line_feed}
 use Rattle.list_writer.proofs.end.Goals as goal
 

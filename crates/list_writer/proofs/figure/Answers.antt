@@ -4,7 +4,7 @@
 use Rattle.std.proofs.Common.{◌∙◌, ap, sym}
 use Rattle.list_text.specs.Laws.{put_put}
 use Rattle.list_text.specs.Text.{decimal}
-use Rattle.list_text.specs.Line.{Line, line, put}
+use Rattle.list_text.specs.Line.{line, put}
 use Rattle.list_writer.specs.declared.Writer.{Writer}
 use Rattle.list_writer.proofs.figure.Goals as goal
 

@@ -1,6 +1,5 @@
 -- `mesh_hanging::any_linked`: each way out is the edge whose key has links, or the last.
 -- Assumes nothing.
-use Rattle.std.proofs.Common.{rules}
 use mathlib.Core.Path.{sym, ◌∙◌, ap}
 use Rattle.laws.specs.Below.{any_below, fold_below}
 use Rattle.piece_edges.specs.Edges.{low_slot, high_slot}

@@ -1,12 +1,11 @@
 -- `mesh_hanging::corners_hang` has passed no hanging edge before e.
 -- Assumes nothing.
-use Rattle.std.proofs.Common.{rules}
-use Prim.Native.Nat.{ℕ, ◌≤◌, ◌-◌}
+use Prim.Native.Nat.{ℕ, ◌-◌}
 use mathlib.Core.Path.{◌≡◌, sym, ◌∙◌, ap}
 use mathlib.Core.Bool.{Bool, false, ◌&&◌}
 use native.Mathlib.Omega.{arith}
 use lib.Dec.{ltb}
-use Rattle.laws.specs.Below.{any_below, any_none, any_next, any_is, any_end}
+use Rattle.laws.specs.Below.{any_none, any_next, any_is, any_end}
 use Rattle.laws.specs.Links.{any_along}
 use Rattle.piece.specs.Ends.{ends_at}
 use Rattle.mesh_tables.specs.Tables.{tables, has_parents}

@@ -1,15 +1,12 @@
 -- `mesh_hanging::corners_hang` has passed no hanging edge before e.
 -- Assumes nothing.
-use Prim.Native.Nat.{ℕ, ◌≤◌, ◌-◌}
-use mathlib.Core.Path.{◌≡◌, sym, ◌∙◌, ap}
-use mathlib.Core.Bool.{Bool, false, ◌&&◌}
-use native.Mathlib.Omega.{arith}
-use lib.Dec.{ltb}
-use Rattle.laws.specs.Below.{any_below, any_none, any_next, any_is, any_end}
-use Rattle.laws.specs.Links.{any_along}
+use Prim.Native.Nat.{◌≤◌, ◌-◌}
+use mathlib.Core.Path.{◌≡◌}
+use mathlib.Core.Bool.{false}
+use Rattle.laws.specs.Below.{any_below}
 use Rattle.piece.specs.Ends.{ends_at}
-use Rattle.mesh_tables.specs.Tables.{tables, has_parents}
-use Rattle.mesh_hanging.specs.Hanging.{hangs_along, corners_hang}
+use Rattle.mesh_tables.specs.Tables.{tables}
+use Rattle.mesh_hanging.specs.Hanging.{hangs_along}
 use Rattle.mesh_hanging.proofs.corners_hang.Given as goal
 
 abbrev pub invariant-loop-e : goal.invariant-loop-e

@@ -1,6 +1,5 @@
 -- `mesh_hanging::is_linked`: the head is not 0.
 -- Assumes nothing.
-use Rattle.std.proofs.Common.{rules}
 use Rattle.mesh_hanging.specs.Hanging.{is_linked}
 use Rattle.mesh_hanging.proofs.is_linked.Goals as goal
 

@@ -1,8 +1,6 @@
 -- `mesh_hanging::leaf_hangs` asks of a leaf's corners whether an edge hangs, where an edge's key has links at all.
 -- Assumes nothing.
-use Rattle.std.proofs.Common.{rules}
 use mathlib.Core.Path.{sym, ◌∙◌, ap}
-use borrow.Author.Tests.{not-true, not-false}
 use Rattle.laws.specs.Below.{and_false}
 use Rattle.mesh_tables.specs.Tables.{tables, is_leaf, piece_at}
 use Rattle.mesh_hanging.specs.Hanging.{any_linked, corners_hang, leaf_hangs_along, not_linked}

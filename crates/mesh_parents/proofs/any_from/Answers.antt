@@ -1,6 +1,5 @@
 -- `mesh_parents::any_from` finds from where it stands on what is found from where it began.
 -- Assumes nothing.
-use Rattle.std.proofs.Common.{rules}
 use Prim.Native.Nat.{ℕ, ◌-◌}
 use mathlib.Core.Path.{◌≡◌, refl, sym, ◌∙◌, ap}
 use mathlib.Core.Bool.{Bool, ◌&&◌}

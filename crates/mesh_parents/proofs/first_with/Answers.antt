@@ -1,13 +1,10 @@
 -- `mesh_parents::first_with` finds from where it stands on, with what it has found, what is found from the head on.
 -- Assumes nothing.
-use Rattle.std.proofs.Common.{rules}
 use Prim.Native.Nat.{ℕ, ◌-◌}
 use mathlib.Core.Path.{◌≡◌, sym, ◌∙◌, ap, ap₂}
 use native.Mathlib.Omega.{arith}
-use lib.ListN.{length, get_or}
 use Rattle.laws.specs.Links.{first_along, first_along_none, first_along_past, link_down}
 use Rattle.mesh_tables.specs.Tables.{tables, has_parents}
-use Rattle.mesh_parents.specs.Pairs.{pair_key}
 use Rattle.mesh_parents.proofs.first_with.Goals as goal
 
 pub loop-to-init : goal.loop-to-init

@@ -1,6 +1,5 @@
 -- `mesh_parents::found_at`: each way out is one case of the definition.
 -- Assumes nothing.
-use Rattle.std.proofs.Common.{rules}
 use Rattle.mesh_parents.proofs.found_at.Goals as goal
 
 pub returns-then-has_parents : goal.returns-then-has_parents

@@ -1,6 +1,5 @@
 -- `mesh_parents::has_parents`: each way out is one case of the definition, at what the calls return.
 -- Assumes nothing.
-use Rattle.std.proofs.Common.{rules}
 use mathlib.Core.Path.{ap}
 use borrow.Author.Tests.{le-leb, lt-leb, eq-eqb, ne_eqb}
 use Rattle.piece.specs.declared.Ends.{Ends}

@@ -1,6 +1,5 @@
 -- `mesh_parents::has_parents_below`: each way out is one case of the definition.
 -- Assumes nothing.
-use Rattle.std.proofs.Common.{rules}
 use borrow.Author.Tests.{lt-ltb, le-ltb}
 use Rattle.mesh_parents.proofs.has_parents_below.Goals as goal
 

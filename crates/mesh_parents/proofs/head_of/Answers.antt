@@ -1,6 +1,5 @@
 -- `mesh_parents::head_of`: the head at the pair's key.
 -- Assumes nothing.
-use Rattle.std.proofs.Common.{rules}
 use mathlib.Core.Path.{◌∙◌, ap}
 use Prim.Native.Nat.{ℕ}
 use lib.ListN.{length, get_or}

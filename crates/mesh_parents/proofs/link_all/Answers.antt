@@ -1,14 +1,13 @@
 -- `mesh_parents::link_all` has put in the vertices before v.
 -- Assumes nothing.
-use Rattle.std.proofs.Common.{rules}
-use Prim.Native.Nat.{ℕ, ◌≤◌, ◌-◌}
+use Prim.Native.Nat.{ℕ, ◌-◌}
 use mathlib.Core.Path.{◌≡◌, sym, ◌∙◌, ap, ap₂}
 use native.Mathlib.Numerals.{add-one}
 use native.Mathlib.Omega.{arith}
 use lib.ListN.{length}
 use Rattle.laws.specs.Links.{Links, links_of, links_are, pushed}
 use Rattle.mesh_tables.specs.Tables.{tables}
-use Rattle.mesh_parents.specs.Pairs.{key_of, pair_links, pairs_none, pairs_suc, pairs_heads_long, pairs_nexts_long}
+use Rattle.mesh_parents.specs.Pairs.{key_of, pair_links, pairs_none, pairs_suc, pairs_heads_long}
 use Rattle.mesh_parents.proofs.link_all.Goals as goal
 
 pub loop-v-init : goal.loop-v-init

@@ -1,13 +1,10 @@
 -- `mesh_parents::link_all` has put in the vertices before v.
 -- Assumes nothing.
-use Prim.Native.Nat.{ℕ, ◌≤◌, ◌-◌}
-use mathlib.Core.Path.{◌≡◌, sym, ◌∙◌, ap, ap₂}
-use native.Mathlib.Numerals.{add-one}
-use native.Mathlib.Omega.{arith}
-use lib.ListN.{length}
-use Rattle.laws.specs.Links.{Links, links_of, links_are, pushed}
+use Prim.Native.Nat.{◌≤◌, ◌-◌}
+use mathlib.Core.Path.{◌≡◌}
+use Rattle.laws.specs.Links.{links_of}
 use Rattle.mesh_tables.specs.Tables.{tables}
-use Rattle.mesh_parents.specs.Pairs.{key_of, pair_links, pairs_none, pairs_suc, pairs_heads_long, pairs_nexts_long}
+use Rattle.mesh_parents.specs.Pairs.{pair_links}
 use Rattle.mesh_parents.proofs.link_all.Given as goal
 
 abbrev pub invariant-loop-v : goal.invariant-loop-v

@@ -1,6 +1,5 @@
 -- `mesh_parents::link_pairs` links all vertices in heads that have been cleared.
 -- Assumes nothing.
-use Rattle.std.proofs.Common.{rules}
 use Rattle.mesh_parents.proofs.link_pairs.Goals as goal
 
 pub returns : goal.returns

@@ -1,6 +1,5 @@
 -- `mesh_parents::link_vertex` puts the vertex in under its key.
 -- Assumes nothing.
-use Rattle.std.proofs.Common.{rules}
 use Rattle.mesh_parents.proofs.link_vertex.Goals as goal
 
 pub returns : goal.returns

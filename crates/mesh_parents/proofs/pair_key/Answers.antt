@@ -1,6 +1,5 @@
 -- `mesh_parents::pair_key`: the key of the pair's number.
 -- Assumes nothing.
-use Rattle.std.proofs.Common.{rules}
 use mathlib.Core.Path.{◌∙◌, ap}
 use Rattle.laws.specs.Links.{key_among}
 use Rattle.mesh_parents.specs.Pairs.{pair_key}

@@ -1,6 +1,5 @@
 -- `mesh_parents::vertex_key`: a base vertex has no key, and a made one that of its parents.
 -- Assumes nothing.
-use Rattle.std.proofs.Common.{rules}
 use mathlib.Core.Path.{◌∙◌, ap}
 use borrow.Author.Tests.{lt-ltb, le-ltb}
 use Rattle.mesh_parents.specs.Pairs.{pair_key, key_of}

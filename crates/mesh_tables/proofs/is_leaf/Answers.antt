@@ -1,6 +1,5 @@
 -- `mesh_tables::is_leaf` reads the record's first child.
 -- Assumes nothing.
-use Rattle.std.proofs.Common.{rules}
 use Prim.Native.Nat.{ℕ}
 use mathlib.Core.Path.{ap}
 use lib.Dec.{eqb}

@@ -1,6 +1,5 @@
 -- `mesh_tables::refinement_ends`: the corners in the refinement edge's two slots, the lower first.
 -- Assumes nothing.
-use Rattle.std.proofs.Common.{rules}
 use mathlib.Core.Path.{◌≡◌, ap, ap₂, ◌∙◌}
 use Prim.Native.Nat.{ℕ}
 use Rattle.piece_edges.specs.Edges.{low_slot, high_slot}

@@ -1,6 +1,5 @@
 -- `piece::ends_at`: the corners in the edge's two slots, the lower first.
 -- Assumes nothing.
-use Rattle.std.proofs.Common.{rules}
 use mathlib.Core.Path.{◌∙◌, ap, ap₂}
 use Prim.Native.Nat.{ℕ}
 use lib.ListN.{get_or}

@@ -1,6 +1,5 @@
 -- `piece::ends_between`: the lower first.
 -- Assumes nothing.
-use Rattle.std.proofs.Common.{rules}
 use Rattle.piece.specs.Ends.{between_rising, between_falling}
 use Rattle.piece.proofs.ends_between.Goals as goal
 

@@ -1,6 +1,5 @@
 -- `piece::ends_of`: those of its corners.
 -- Assumes nothing.
-use Rattle.std.proofs.Common.{rules}
 use mathlib.Core.Path.{◌∙◌}
 use Rattle.piece.specs.Ends.{ends_at_lem}
 use Rattle.piece.proofs.ends_of.Goals as goal

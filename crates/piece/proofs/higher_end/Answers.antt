@@ -1,6 +1,5 @@
 -- `piece::higher_end`: each way out is one case of the definition, at what the calls return.
 -- Assumes nothing.
-use Rattle.std.proofs.Common.{rules}
 use borrow.Author.Tests.{lt-ltb, le-ltb}
 use Rattle.piece.specs.Ends.{higher_end}
 use Rattle.piece.proofs.higher_end.Goals as goal

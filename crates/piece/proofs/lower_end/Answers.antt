@@ -1,6 +1,5 @@
 -- `piece::lower_end`: each way out is one case of the definition, at what the calls return.
 -- Assumes nothing.
-use Rattle.std.proofs.Common.{rules}
 use borrow.Author.Tests.{lt-ltb, le-ltb}
 use Rattle.piece.specs.Ends.{lower_end}
 use Rattle.piece.proofs.lower_end.Goals as goal

@@ -1,7 +1,5 @@
 -- `piece::mark_fits`: each way out is one case of the definition, at what the calls return.
 -- Assumes nothing.
-use Rattle.std.proofs.Common.{rules}
-use borrow.Author.Tests.{not-true, not-false}
 use Rattle.piece.specs.Shape.{mark_fits}
 use Rattle.piece.proofs.mark_fits.Goals as goal
 

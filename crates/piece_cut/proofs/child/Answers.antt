@@ -1,6 +1,5 @@
 -- `piece_cut::child`: the parts that the calls return.
 -- Assumes nothing.
-use Rattle.std.proofs.Common.{rules}
 use Rattle.piece_cut.specs.Cut.{child_of, child_shape}
 use Rattle.piece_cut.proofs.child.Goals as goal
 

@@ -1,6 +1,5 @@
 -- `piece_cut::child_flag`: each way out is one case of the definition, at what the call returns.
 -- Assumes nothing.
-use Rattle.std.proofs.Common.{rules}
 use Rattle.piece_cut.specs.Cut.{child_flag}
 use Rattle.piece_cut.proofs.child_flag.Goals as goal
 

@@ -1,6 +1,5 @@
 -- `piece_cut::child_mark`: each way out is one case of the definition, at what the calls return.
 -- Assumes nothing.
-use Rattle.std.proofs.Common.{rules}
 use borrow.Author.Tests.{eq-eqb, ne_eqb}
 use Rattle.piece_cut.specs.Cut.{child_mark}
 use Rattle.piece_cut.proofs.child_mark.Goals as goal

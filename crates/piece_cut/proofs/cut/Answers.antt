@@ -1,6 +1,5 @@
 -- `piece_cut::cut`: the two children that the calls return, by the ends that the calls return.
 -- Assumes nothing.
-use Rattle.std.proofs.Common.{rules}
 use Rattle.piece_cut.specs.Cut.{cut_of}
 use Rattle.piece_cut.proofs.cut.Goals as goal
 

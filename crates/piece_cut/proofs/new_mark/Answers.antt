@@ -1,6 +1,5 @@
 -- `piece_cut::new_mark`: each way out is one case of the definition, at what the calls return.
 -- Assumes nothing.
-use Rattle.std.proofs.Common.{rules}
 use Rattle.piece.specs.Shape.{slot_a, slot_b}
 use Rattle.piece_cut.specs.Cut.{new_mark}
 use Rattle.piece_cut.proofs.new_mark.Goals as goal

@@ -1,6 +1,5 @@
 -- `piece_edges::edge_between`: of two slots the table is computed; otherwise there is no edge.
 -- Assumes nothing.
-use Rattle.std.proofs.Common.{rules}
 use native.Mathlib.Omega.{arith}
 use Rattle.laws.specs.Below.{first_below}
 use Rattle.piece_edges.specs.Edges.{low_slot, high_slot, has_slot, joins, edge_between}

@@ -1,6 +1,5 @@
 -- `piece_edges::has_slot`: each test is one half of the definition.
 -- Assumes nothing.
-use Rattle.std.proofs.Common.{rules}
 use borrow.Author.Tests.{eq-eqb, ne_eqb}
 use Rattle.piece_edges.specs.Edges.{has_slot}
 use Rattle.piece_edges.proofs.has_slot.Goals as goal

@@ -1,6 +1,5 @@
 -- `piece_edges::high_slot`: the codes of each arm have its slot in the table; a code above 5 has slot 0.
 -- Assumes nothing.
-use Rattle.std.proofs.Common.{rules}
 use mathlib.Core.Path.{◌≡◌, refl}
 use mathlib.Core.Logic.{inl, inr, ⊎_elim}
 use native.Mathlib.Omega.{arith}

@@ -1,6 +1,5 @@
 -- `piece_edges::low_slot`: the codes of each arm have its slot in the table; a code above 5 has slot 0.
 -- Assumes nothing.
-use Rattle.std.proofs.Common.{rules}
 use mathlib.Core.Path.{refl}
 use native.Mathlib.Omega.{arith}
 use Rattle.laws.specs.Below.{fold_below, all_below}

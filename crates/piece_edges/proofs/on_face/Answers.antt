@@ -1,6 +1,5 @@
 -- `piece_edges::on_face`: each way out is one case of the definition.
 -- Assumes nothing.
-use Rattle.std.proofs.Common.{rules}
 use borrow.Author.Tests.{lt-ltb, le-ltb}
 use Rattle.piece_edges.specs.Edges.{on_face}
 use Rattle.piece_edges.proofs.on_face.Goals as goal

@@ -1,6 +1,5 @@
 -- `piece_edges::opposite_on`: the table is computed, from what each arm says of the two slots.
 -- Assumes nothing.
-use Rattle.std.proofs.Common.{rules}
 use native.Mathlib.Omega.{arith}
 use borrow.Author.Tests.{ne_eqb}
 use Rattle.laws.specs.Below.{first_below, and_false}

@@ -1,6 +1,5 @@
 -- `piece_edges::other_end`: each way out is one case of the definition, at what the calls return.
 -- Assumes nothing.
-use Rattle.std.proofs.Common.{rules}
 use borrow.Author.Tests.{eq-eqb, ne_eqb}
 use Rattle.piece_edges.specs.Edges.{other_end}
 use Rattle.piece_edges.proofs.other_end.Goals as goal

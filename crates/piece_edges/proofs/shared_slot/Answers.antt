@@ -1,6 +1,5 @@
 -- `piece_edges::shared_slot`: each way out is one case of the search among the ends, at what the calls return.
 -- Assumes nothing.
-use Rattle.std.proofs.Common.{rules}
 use Rattle.piece_edges.specs.Tables.{shared_by_ends}
 use Rattle.piece_edges.proofs.shared_slot.Goals as goal
 

@@ -1,6 +1,5 @@
 -- `piece_same::same_piece`: each way out is one case of the definition, at what the calls return.
 -- Assumes nothing.
-use Rattle.std.proofs.Common.{rules}
 use borrow.Author.Tests.{eq-eqb, ne_eqb}
 use Rattle.piece.specs.Same.{same_piece}
 use Rattle.piece_same.proofs.same_piece.Goals as goal

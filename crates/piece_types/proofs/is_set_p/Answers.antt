@@ -1,6 +1,5 @@
 -- `piece_types::is_set_p`: each way out is one case of the flag, at what the call returns.
 -- Assumes nothing.
-use Rattle.std.proofs.Common.{rules}
 use mathlib.Core.Bool.{and-true, and-false}
 use borrow.Author.Tests.{eq-eqb, ne_eqb}
 use Rattle.piece.specs.Shape.{set_p}

@@ -1,6 +1,5 @@
 -- `piece_types::is_type_p`: each way out is one case of the definition, at what the calls return.
 -- Assumes nothing.
-use Rattle.std.proofs.Common.{rules}
 use Rattle.piece.specs.Shape.{type_p, slot_a, slot_b, slot_c, slot_d, edge_c_d}
 use Rattle.piece_types.proofs.is_type_p.Goals as goal
 

@@ -1,6 +1,5 @@
 -- `piece_types::other_marks_are`: each way out is one case of the definition, at what the calls return.
 -- Assumes nothing.
-use Rattle.std.proofs.Common.{rules}
 use borrow.Author.Tests.{eq-eqb, ne_eqb}
 use Rattle.piece.specs.Shape.{other_marks_are, slot_a, slot_b}
 use Rattle.piece_types.proofs.other_marks_are.Goals as goal

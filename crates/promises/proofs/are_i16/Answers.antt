@@ -1,14 +1,13 @@
 -- `promises::are_i16` meets its contract. The loop's invariant: every coordinate passed is an i16.
-use Rattle.std.proofs.Common.{rules}
 use mathlib.Core.Path.{sym, subst}
 use mathlib.Core.Logic.{⊎_elim}
 use mathlib.Core.List.{List}
-use Prim.Native.Nat.{ℕ, ◌≤◌, ◌<◌, ◌-◌}
+use Prim.Native.Nat.{ℕ, ◌-◌}
 use native.Mathlib.Nat.{eq-or-lt_of_le, le_of_suc-le-suc}
 use native.Mathlib.Numerals.{add-one}
 use native.Mathlib.Omega.{arith}
 use borrow.Author.Rules.{sfits_of}
-use lib.ListN.{length, get_or}
+use lib.ListN.{get_or}
 use lib.IntN.{ℤ, pos}
 use mir.Syntax.{w16}
 use Rattle.demands_words.specs.Words.{I16}

@@ -1,5 +1,4 @@
 -- `promises::build` meets its contract: the arguments have the types that they have.
-use Rattle.std.proofs.Common.{rules}
 use native.Mathlib.Omega.{arith}
 use lib.ListN.{length}
 use Rattle.promises.specs.Promises.{build_promised}

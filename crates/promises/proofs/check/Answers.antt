@@ -1,5 +1,4 @@
 -- `promises::check` meets its contract: a slice of u8 holds bytes.
-use Rattle.std.proofs.Common.{rules}
 use native.Mathlib.Omega.{arith}
 use Rattle.laws.specs.Lists.{bytes_none}
 use Rattle.stored.specs.Layout.{stored1}

@@ -1,5 +1,4 @@
 -- `promises::list` meets its contract: a slice of u8 holds bytes.
-use Rattle.std.proofs.Common.{rules}
 use native.Mathlib.Omega.{arith}
 use lib.ListN.{length}
 use Rattle.promises.specs.Promises.{list_promised}

@@ -1,5 +1,4 @@
 -- `promises::refine` meets its contract: a slice of u8 holds bytes.
-use Rattle.std.proofs.Common.{rules}
 use mathlib.Core.Path.{refl}
 use native.Mathlib.Omega.{arith}
 use lib.ListN.{length}

@@ -1,6 +1,5 @@
 -- `refine_cut::cut_at`: no room, or the midpoint and then the children; read as tables, by the law of the cut.
 -- Assumes nothing.
-use Rattle.std.proofs.Common.{rules}
 use native.Mathlib.Omega.{arith}
 use Rattle.refine_cut.specs.Slices.{slices}
 use Rattle.refine_cut.specs.Steps.{midpoint_records, no_vertex_room, no_record_room, cut_written}

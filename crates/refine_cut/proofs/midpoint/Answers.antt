@@ -1,6 +1,5 @@
 -- `refine_cut::midpoint`: the two ends' places, and halfway between them.
 -- Assumes nothing.
-use Rattle.std.proofs.Common.{rules}
 use Rattle.refine_cut.specs.Cut.{midpoint_of}
 use Rattle.refine_cut.proofs.midpoint.Goals as goal
 

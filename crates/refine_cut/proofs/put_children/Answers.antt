@@ -1,6 +1,5 @@
 -- `refine_cut::put_children`: the record cut, then its two children.
 -- Assumes nothing.
-use Rattle.std.proofs.Common.{rules}
 use Prim.Native.Nat.{◌+◌}
 use mathlib.Core.Path.{refl}
 use native.Mathlib.Omega.{arith}

@@ -1,6 +1,5 @@
 -- `refine_cut::put_midpoint`: the vertex is there, or appended.
 -- Assumes nothing.
-use Rattle.std.proofs.Common.{rules}
 use native.Mathlib.Omega.{arith}
 use Rattle.refine_cut.specs.Steps.{midpoint_there, midpoint_appended}
 use Rattle.refine_cut.proofs.put_midpoint.Goals as goal

@@ -1,14 +1,13 @@
 -- `refine_pass::choose_hanging` has chosen, of the records before n, those that hang.
 -- Assumes nothing.
-use Rattle.std.proofs.Common.{rules}
-use Prim.Native.Nat.{◌≤◌, ◌-◌}
-use mathlib.Core.Path.{◌≡◌, refl, ◌∙◌}
+use Prim.Native.Nat.{◌-◌}
+use mathlib.Core.Path.{refl, ◌∙◌}
 use native.Mathlib.Nat.{le_refl}
 use native.Mathlib.Omega.{arith}
-use lib.ListN.{length, length-set}
+use lib.ListN.{length-set}
 use Rattle.mesh_tables.specs.Tables.{tables, all_vertices, leaf_hangs}
 use Rattle.mesh_hanging.specs.Hanging.{leaf_hangs_along_lem}
-use Rattle.refine_pass.specs.Chosen.{Chosen, chosen_none, chosen_next, chosen_all}
+use Rattle.refine_pass.specs.Chosen.{chosen_none, chosen_next, chosen_all}
 use Rattle.refine_pass.proofs.choose_hanging.Goals as goal
 
 pub loop-n-init : goal.loop-n-init

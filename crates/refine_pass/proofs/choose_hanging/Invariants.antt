@@ -1,13 +1,10 @@
 -- `refine_pass::choose_hanging` has chosen, of the records before n, those that hang.
 -- Assumes nothing.
 use Prim.Native.Nat.{◌≤◌, ◌-◌}
-use mathlib.Core.Path.{◌≡◌, refl, ◌∙◌}
-use native.Mathlib.Nat.{le_refl}
-use native.Mathlib.Omega.{arith}
-use lib.ListN.{length, length-set}
-use Rattle.mesh_tables.specs.Tables.{tables, all_vertices, leaf_hangs}
-use Rattle.mesh_hanging.specs.Hanging.{leaf_hangs_along_lem}
-use Rattle.refine_pass.specs.Chosen.{Chosen, chosen_none, chosen_next, chosen_all}
+use mathlib.Core.Path.{◌≡◌}
+use lib.ListN.{length}
+use Rattle.mesh_tables.specs.Tables.{tables, leaf_hangs}
+use Rattle.refine_pass.specs.Chosen.{Chosen}
 use Rattle.refine_pass.proofs.choose_hanging.Given as goal
 
 abbrev pub invariant-loop-n : goal.invariant-loop-n

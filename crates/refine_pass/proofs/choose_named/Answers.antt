@@ -1,12 +1,11 @@
 -- `refine_pass::choose_named` has counted the numbers before i in a table that was cleared.
 -- Assumes nothing.
-use Rattle.std.proofs.Common.{rules}
-use Prim.Native.Nat.{◌≤◌, ◌-◌}
-use mathlib.Core.Path.{◌≡◌, sym, ◌∙◌, ap}
+use Prim.Native.Nat.{◌-◌}
+use mathlib.Core.Path.{sym, ◌∙◌, ap}
 use native.Mathlib.Omega.{arith}
 use lib.ListN.{length}
 use Rattle.laws.specs.Links.{counted_at}
-use Rattle.laws.specs.Counts.{counts_below, counts_none, counts_next, counts_end, counts_long, key_marking}
+use Rattle.laws.specs.Counts.{counts_none, counts_next, counts_end, counts_long, key_marking}
 use Rattle.stored.specs.Layout.{selection_in, named_in}
 use Rattle.refine_pass.proofs.choose_named.Goals as goal
 

@@ -1,11 +1,9 @@
 -- `refine_pass::choose_named` has counted the numbers before i in a table that was cleared.
 -- Assumes nothing.
 use Prim.Native.Nat.{◌≤◌, ◌-◌}
-use mathlib.Core.Path.{◌≡◌, sym, ◌∙◌, ap}
-use native.Mathlib.Omega.{arith}
-use lib.ListN.{length}
+use mathlib.Core.Path.{◌≡◌}
 use Rattle.laws.specs.Links.{counted_at}
-use Rattle.laws.specs.Counts.{counts_below, counts_none, counts_next, counts_end, counts_long, key_marking}
+use Rattle.laws.specs.Counts.{counts_below}
 use Rattle.stored.specs.Layout.{selection_in, named_in}
 use Rattle.refine_pass.proofs.choose_named.Given as goal
 

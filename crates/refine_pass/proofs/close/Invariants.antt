@@ -1,16 +1,9 @@
 -- `refine_pass::close`: what is left to close is the same after each pass, and the links are those of the vertices then.
 -- Assumes nothing.
-use mathlib.Core.Path.{◌≡◌, refl, sym, ◌∙◌}
-use native.Mathlib.Omega.{arith}
+use mathlib.Core.Path.{◌≡◌}
 use lib.ListN.{length}
-use borrow.Author.Tests.{not-true, not-false}
-use Rattle.laws.specs.Counts.{marked}
-use Rattle.mesh_tables.specs.Tables.{leaf_hangs, hanging_edge}
-use Rattle.refine_cut.specs.Slices.{slices, tables_in}
+use Rattle.refine_cut.specs.Slices.{slices}
 use Rattle.refine_pass.specs.Puts.{closing_put}
-use Rattle.refine_pass.specs.Steps.{pass_same, closing_exceeds, closing_none, closing_out}
-use Rattle.refine_pass.proofs.Steps.{closing_next}
-use Rattle.refine_pass.specs.Law.{within}
 use Rattle.refine_pass.specs.Linked.{AtWork}
 use Rattle.refine_pass.proofs.close.Given as goal
 

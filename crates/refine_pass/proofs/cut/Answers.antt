@@ -1,6 +1,5 @@
 -- `refine_pass::cut`: the vertex found along the links is the one that the cut uses.
 -- Assumes nothing.
-use Rattle.std.proofs.Common.{rules}
 use native.Mathlib.Omega.{arith}
 use Rattle.refine_cut.specs.Slices.{slices}
 use Rattle.refine_pass.specs.Linked.{found_within, cut_found}

@@ -1,6 +1,5 @@
 -- `refine_pass::exceeds`: each way out is one case of the definition.
 -- Assumes nothing.
-use Rattle.std.proofs.Common.{rules}
 use borrow.Author.Tests.{lt-ltb, le-ltb}
 use Rattle.refine_pass.specs.Passes.{exceeds}
 use Rattle.refine_pass.proofs.exceeds.Goals as goal

@@ -1,6 +1,5 @@
 -- `refine_pass::link_fresh`: there is no vertex more, or it is put before the others with its key.
 -- Assumes nothing.
-use Rattle.std.proofs.Common.{rules}
 use Rattle.mesh_tables.specs.Tables.{tables}
 use Rattle.refine_pass.specs.Linked.{none_fresh, fresh_linked}
 use Rattle.refine_pass.proofs.link_fresh.Goals as goal

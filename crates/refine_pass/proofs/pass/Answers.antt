@@ -1,18 +1,14 @@
 -- `refine_pass::pass` has made the turns before n, of the records that the table has, and the links are those of the vertices then.
 -- Assumes nothing.
-use Rattle.std.proofs.Common.{rules}
-use Prim.Native.Nat.{ℕ, ◌≤◌, ◌-◌}
-use mathlib.Core.Path.{◌≡◌, refl, sym, ap, ◌∙◌}
+use Prim.Native.Nat.{ℕ, ◌-◌}
+use mathlib.Core.Path.{refl, sym, ap, ◌∙◌}
 use mathlib.Core.Bool.{not}
 use native.Mathlib.Omega.{arith}
-use lib.ListN.{length}
 use lib.Dec.{eqb}
 use borrow.Author.Tests.{eq-eqb, ne_eqb}
 use Rattle.laws.specs.Counts.{marked}
 use Rattle.refine_cut.specs.Slices.{slices}
-use Rattle.refine_pass.specs.Puts.{turns_put}
 use Rattle.refine_pass.specs.Steps.{turns_none, turns_past, turns_next, turns_all, turns_there}
-use Rattle.refine_pass.specs.Linked.{AtWork}
 use Rattle.refine_pass.proofs.pass.Goals as goal
 
 pub loop-n-init : goal.loop-n-init

@@ -1,6 +1,5 @@
 -- `refine_pass::passes`: pass one of the records that the table has, which are those that the selection names; then the closing.
 -- Assumes nothing.
-use Rattle.std.proofs.Common.{rules}
 use mathlib.Core.Path.{◌∙◌}
 use native.Mathlib.Omega.{arith}
 use lib.ListN.{length}

@@ -1,8 +1,6 @@
 -- `refine_pass::refined`: nothing is cut, or all passes are made.
 -- Assumes nothing.
-use Rattle.std.proofs.Common.{rules}
 use mathlib.Core.Path.{sym, ◌∙◌}
-use borrow.Author.Tests.{not-true, not-false}
 use Rattle.stored.specs.Layout.{selection_in, named_in}
 use Rattle.refine_selection.specs.Selected.{is_named}
 use Rattle.refine_cut.specs.Slices.{slices}

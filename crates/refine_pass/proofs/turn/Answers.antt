@@ -1,6 +1,5 @@
 -- `refine_pass::turn`: the limits are exceeded, or it is cut, and then the links have the vertex that the cut appended.
 -- Assumes nothing.
-use Rattle.std.proofs.Common.{rules}
 use mathlib.Core.Path.{sym, ◌∙◌}
 use Rattle.refine_cut.specs.Slices.{slices}
 use Rattle.refine_pass.specs.Steps.{turn_exceeds, turn_cut}

@@ -1,11 +1,10 @@
 -- `refine_selection::bad_numbers` has passed no bad number before i.
 -- Assumes nothing.
-use Rattle.std.proofs.Common.{rules}
-use Prim.Native.Nat.{◌≤◌, ◌-◌}
-use mathlib.Core.Path.{◌≡◌, sym, ◌∙◌}
+use Prim.Native.Nat.{◌-◌}
+use mathlib.Core.Path.{sym, ◌∙◌}
 use mathlib.Core.Bool.{false}
 use native.Mathlib.Omega.{arith}
-use Rattle.laws.specs.Below.{any_below, any_none, any_next, any_is, any_end}
+use Rattle.laws.specs.Below.{any_none, any_next, any_is, any_end}
 use Rattle.stored.specs.Layout.{selection_in, named_in}
 use Rattle.refine_selection.specs.Selected.{bad_number, bad_numbers}
 use Rattle.refine_selection.proofs.bad_numbers.Goals as goal

@@ -1,6 +1,5 @@
 -- `refine_selection::is_cut` reads the record that is named.
 -- Assumes nothing.
-use Rattle.std.proofs.Common.{rules}
 use Rattle.refine_selection.proofs.is_cut.Goals as goal
 
 pub returns : goal.returns

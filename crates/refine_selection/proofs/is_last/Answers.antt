@@ -1,6 +1,5 @@
 -- `refine_selection::is_last` reads the generation of the record that is named.
 -- Assumes nothing.
-use Rattle.std.proofs.Common.{rules}
 use Rattle.refine_selection.proofs.is_last.Goals as goal
 
 pub returns : goal.returns

@@ -1,13 +1,10 @@
 -- `refine_selection::names_cut` has passed no cut record before i.
 -- Assumes nothing.
-use Rattle.std.proofs.Common.{rules}
-use Prim.Native.Nat.{◌≤◌, ◌-◌}
-use mathlib.Core.Path.{◌≡◌, sym, ◌∙◌}
-use mathlib.Core.Bool.{false, not}
+use Prim.Native.Nat.{◌-◌}
+use mathlib.Core.Path.{sym, ◌∙◌}
+use mathlib.Core.Bool.{false}
 use native.Mathlib.Omega.{arith}
-use Rattle.laws.specs.Below.{any_below, any_none, any_next, any_is, any_end}
-use Rattle.stored.specs.Layout.{selection_in, named_in, record_in}
-use Rattle.mesh_tables.specs.Tables.{uncut}
+use Rattle.laws.specs.Below.{any_none, any_next, any_is, any_end}
 use Rattle.refine_selection.specs.Selected.{names_cut}
 use Rattle.refine_selection.proofs.names_cut.Goals as goal
 

@@ -1,14 +1,12 @@
 -- `refine_selection::names_last` has passed no record of the last generation before i.
 -- Assumes nothing.
 use Prim.Native.Nat.{◌≤◌, ◌-◌}
-use mathlib.Core.Path.{◌≡◌, sym, ◌∙◌}
+use mathlib.Core.Path.{◌≡◌}
 use mathlib.Core.Bool.{false}
-use native.Mathlib.Omega.{arith}
 use lib.Dec.{eqb}
-use Rattle.laws.specs.Below.{any_below, any_none, any_next, any_is, any_end}
+use Rattle.laws.specs.Below.{any_below}
 use Rattle.piece.specs.Shape.{last_generation}
 use Rattle.stored.specs.Layout.{selection_in, named_in, record_in}
-use Rattle.refine_selection.specs.Selected.{names_last}
 use Rattle.refine_selection.proofs.names_last.Given as goal
 
 abbrev pub invariant-loop-i : goal.invariant-loop-i

@@ -1,9 +1,8 @@
 -- `refine_selection::wrong_selection`: each way out is the first rule broken, at what the calls return.
 -- Assumes nothing.
-use Rattle.std.proofs.Common.{rules}
 use mathlib.Core.Path.{◌≡◌, sym, ap, ◌∙◌}
 use mathlib.Core.Bool.{Bool, true, false}
-use borrow.Author.Tests.{not-true, not-false, eq-eqb, ne_eqb}
+use borrow.Author.Tests.{eq-eqb, ne_eqb}
 use Rattle.laws.specs.Order.{first_broken}
 use Rattle.stored.specs.declared.Selection.{Selection}
 use Rattle.stored.specs.Layout.{selection_in, right_selection_length, right_selection_mark, selection_of, named_in}

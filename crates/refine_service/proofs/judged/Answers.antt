@@ -1,6 +1,5 @@
 -- `refine_service::judged`: the number of the verdict is check's, at most 10.
 -- Assumes nothing.
-use Rattle.std.proofs.Common.{rules}
 use mathlib.Core.Path.{◌≡◌, ap, ◌∙◌}
 use native.Mathlib.Omega.{arith}
 use Rattle.stored.specs.Layout.{stored1}

@@ -1,6 +1,5 @@
 -- `refine_service::named`: each way out is the first rule broken, at what the calls return.
 -- Assumes nothing.
-use Rattle.std.proofs.Common.{rules}
 use mathlib.Core.Path.{sym, ◌∙◌}
 use borrow.Author.Tests.{eq-eqb, ne_eqb}
 use Rattle.laws.specs.Order.{first_broken}

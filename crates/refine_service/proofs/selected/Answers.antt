@@ -1,6 +1,5 @@
 -- `refine_service::selected`: 11 to 15 come first, then 16 to 18.
 -- Assumes nothing.
-use Rattle.std.proofs.Common.{rules}
 use mathlib.Core.Path.{sym, ap, ◌∙◌}
 use borrow.Author.Tests.{ne_eqb}
 use Rattle.stored.specs.declared.Selection.{Selection}

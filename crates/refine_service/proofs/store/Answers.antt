@@ -1,6 +1,5 @@
 -- `refine_service::store`: the tables are copied, worked on and stored.
 -- Assumes nothing.
-use Rattle.std.proofs.Common.{rules}
 use mathlib.Core.Path.{◌≡◌, sym, ap, subst, ◌∙◌}
 use mathlib.Core.Bool.{false}
 use Prim.Native.Nat.{◌+◌, ◌*◌}
@@ -66,8 +65,11 @@ returns c =
     let vertices = worked.new.vertices in
     let records = worked.new.records in
     let long : length vertices ≡ vertex_width version1 * (limits.vertices + 1) = c.vertices-4-1.given in
-    let deep : length records ≡ record_width version1 * (limits.records + 2) = c.records-4-1.given in record { value = c.finish.ensures.value
+    let deep : length records ≡ record_width version1 * (limits.records + 2) = c.records-4-1.given in record {
+      value = c.finish.ensures.value
           ∙ ap (λ (k : Kind). stored_number k worked.result (length out)) kind
-          ∙ later_number_lem mesh selection out a.h pre bytes worked.result vertices records is long deep (length out); out_after = c.finish.ensures.out_after
+          ∙ later_number_lem mesh selection out a.h pre bytes worked.result vertices records is long deep (length out);
+      out_after = c.finish.ensures.out_after
           ∙ ap (λ (k : Kind). stored_bytes k worked.result vertices records (length out)) kind
-          ∙ later_bytes_lem mesh selection out a.h pre bytes worked.result vertices records is long deep (length out) }
+          ∙ later_bytes_lem mesh selection out a.h pre bytes worked.result vertices records is long deep (length out);
+    }

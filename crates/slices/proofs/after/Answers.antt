@@ -1,6 +1,5 @@
 -- `slices::after` meets its contract: a part to the end is all that follows, and past the end nothing does.
 -- Assumes nothing.
-use Rattle.std.proofs.Common.{rules}
 use mathlib.Core.Path.{sym}
 use Prim.Native.Nat.{◌-◌}
 use native.Mathlib.Nat.{le_of_lt}

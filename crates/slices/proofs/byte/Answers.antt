@@ -1,6 +1,5 @@
 -- `slices::byte` meets its contract: past the end the definition gives 0 too.
 -- Assumes nothing.
-use Rattle.std.proofs.Common.{rules}
 use mathlib.Core.Path.{sym}
 use lib.ListN.{get_or-eq_default}
 use Rattle.slices.proofs.byte.Goals as goal

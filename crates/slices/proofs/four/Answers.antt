@@ -1,6 +1,5 @@
 -- `slices::four`: a number of four bytes is two of two.
 -- Assumes nothing.
-use Rattle.std.proofs.Common.{rules}
 use mathlib.Core.Path.{sym}
 use lib.ListN.{drop}
 use Rattle.laws.specs.Numbers.{number_join}

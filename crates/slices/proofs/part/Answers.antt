@@ -1,6 +1,5 @@
 -- `slices::part`: the front of what follows, or all of it.
 -- Assumes nothing.
-use Rattle.std.proofs.Common.{rules}
 use mathlib.Core.Path.{sym, ap, ◌∙◌}
 use native.Mathlib.Nat.{le_of_lt}
 use lib.ListN.{take}

@@ -1,13 +1,12 @@
 -- `slices_written::clear` has cleared the bytes before i.
 -- Assumes nothing.
-use Rattle.std.proofs.Common.{rules}
-use Prim.Native.Nat.{ℕ, ◌≤◌, ◌-◌}
-use mathlib.Core.Path.{◌≡◌, refl, sym, ◌∙◌, ap}
+use Prim.Native.Nat.{ℕ, ◌-◌}
+use mathlib.Core.Path.{refl, sym, ◌∙◌, ap}
 use native.Mathlib.Omega.{arith}
 use lib.ListN.{length, set}
 use mathlib.Core.List.{List}
 use lib.ListN.{replicate, length-set}
-use Rattle.laws.specs.Lists.{copied, copied_none, clear_next, clear_done}
+use Rattle.laws.specs.Lists.{copied_none, clear_next, clear_done}
 use Rattle.slices_written.proofs.clear.Goals as goal
 
 pub loop-i-init : goal.loop-i-init

@@ -1,6 +1,5 @@
 -- `slices_written::put`: past the end nothing is written.
 -- Assumes nothing.
-use Rattle.std.proofs.Common.{rules}
 use mathlib.Core.Path.{sym}
 use native.Mathlib.Omega.{arith}
 use Rattle.laws.specs.Lists.{sets_out}

@@ -1,11 +1,10 @@
 -- `slices_written::put_within` meets its contract: after i turns the first i bytes are copied, and in the end all that there are or that there is room for. Assumes nothing.
-use Rattle.std.proofs.Common.{rules}
-use mathlib.Core.Path.{◌≡◌, refl, sym, ap, ◌∙◌}
-use Prim.Native.Nat.{ℕ, ◌+◌, ◌-◌, ◌≤◌}
+use mathlib.Core.Path.{refl, sym, ap, ◌∙◌}
+use Prim.Native.Nat.{ℕ, ◌+◌, ◌-◌}
 use native.Mathlib.Omega.{arith}
 use mathlib.Core.List.{List}
-use lib.ListN.{length, get_or, set, length-set}
-use Rattle.laws.specs.Lists.{copied, copied_none, copied_next, copied_whole}
+use lib.ListN.{get_or, set, length-set}
+use Rattle.laws.specs.Lists.{copied_none, copied_next, copied_whole}
 use Rattle.slices_written.proofs.put_within.Goals as goal
 
 pub loop-i-init : goal.loop-i-init

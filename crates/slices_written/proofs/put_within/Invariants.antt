@@ -1,10 +1,8 @@
 -- `slices_written::put_within` meets its contract: after i turns the first i bytes are copied, and in the end all that there are or that there is room for. Assumes nothing.
-use mathlib.Core.Path.{◌≡◌, refl, sym, ap, ◌∙◌}
-use Prim.Native.Nat.{ℕ, ◌+◌, ◌-◌, ◌≤◌}
-use native.Mathlib.Omega.{arith}
-use mathlib.Core.List.{List}
-use lib.ListN.{length, get_or, set, length-set}
-use Rattle.laws.specs.Lists.{copied, copied_none, copied_next, copied_whole}
+use mathlib.Core.Path.{◌≡◌}
+use Prim.Native.Nat.{◌-◌, ◌≤◌}
+use lib.ListN.{length}
+use Rattle.laws.specs.Lists.{copied}
 use Rattle.slices_written.proofs.put_within.Given as goal
 
 abbrev pub invariant-loop-i : goal.invariant-loop-i

@@ -1,7 +1,5 @@
 -- `stored::in_growth`: what is left where two buffers are there, and else nothing.
 -- Assumes nothing.
-use Rattle.std.proofs.Common.{rules}
-use mathlib.Core.Path.{sym}
 use native.Mathlib.Omega.{arith}
 use Rattle.stored.proofs.in_growth.Goals as goal
 

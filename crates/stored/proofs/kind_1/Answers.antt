@@ -1,6 +1,5 @@
 -- `stored::kind_1`: its format and its limits are version 1's.
 -- Assumes nothing.
-use Rattle.std.proofs.Common.{rules}
 use Rattle.stored.proofs.kind_1.Goals as goal
 
 pub returns : goal.returns

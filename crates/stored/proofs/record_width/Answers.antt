@@ -1,6 +1,5 @@
 -- `stored::record_width`: one byte more with a material.
 -- Assumes nothing.
-use Rattle.std.proofs.Common.{rules}
 use native.Mathlib.Omega.{arith}
 use Rattle.stored.proofs.record_width.Goals as goal
 

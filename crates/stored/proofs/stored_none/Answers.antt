@@ -1,6 +1,5 @@
 -- `stored::stored_none`: by how wide a number is.
 -- Assumes nothing.
-use Rattle.std.proofs.Common.{rules}
 use Rattle.stored.proofs.stored_none.Goals as goal
 
 pub returns-then-f : goal.returns-then-f

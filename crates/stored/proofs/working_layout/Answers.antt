@@ -1,6 +1,5 @@
 -- `stored::working_layout`: the tables' places are the definition's, and fit a usize.
 -- Assumes nothing.
-use Rattle.std.proofs.Common.{rules}
 use native.Mathlib.Nat.{mul-le-mul_right}
 use native.Mathlib.Omega.{arith}
 use Rattle.stored.proofs.working_layout.Goals as goal

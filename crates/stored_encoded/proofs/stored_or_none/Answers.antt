@@ -1,6 +1,5 @@
 -- `stored_encoded::stored_or_none`: none is stored as 65,535 where numbers have two bytes; where they have four, as it is.
 -- Assumes nothing.
-use Rattle.std.proofs.Common.{rules}
 use mathlib.Core.Path.{◌≡◌, refl}
 use mathlib.Core.Bool.{Bool, true, false, cond}
 use Prim.Native.Nat.{ℕ}

@@ -1,6 +1,5 @@
 -- `stored_encoded::vertex_bytes` meets its contract: the fields, laid out one after the other in numbers of two bytes or of four.
 -- Assumes nothing.
-use Rattle.std.proofs.Common.{rules}
 use mathlib.Core.List.{[], ◌∷◌}
 use Rattle.laws.specs.Numbers.{number_bytes}
 use Rattle.stored_encoded.specs.Laid.{wide_number, narrow_number, vertex_laid}

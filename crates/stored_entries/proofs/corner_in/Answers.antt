@@ -1,6 +1,5 @@
 -- `stored_entries::corner_in` meets its contract: one field of the record, and past the four slots 0.
 -- Assumes nothing.
-use Rattle.std.proofs.Common.{rules}
 use mathlib.Core.Path.{sym, ap, ◌∙◌}
 use mathlib.Core.List.{List}
 use Prim.Native.Nat.{ℕ}

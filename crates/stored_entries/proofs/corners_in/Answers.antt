@@ -1,6 +1,5 @@
 -- `stored_entries::corners_in` meets its contract: one field of the record.
 -- Assumes nothing.
-use Rattle.std.proofs.Common.{rules}
 use Rattle.stored.specs.Layout.{record_in, record_from}
 use Rattle.stored_entries.proofs.corners_in.Goals as goal
 

@@ -1,6 +1,5 @@
 -- `stored_entries::edge_in` meets its contract: one field of the record.
 -- Assumes nothing.
-use Rattle.std.proofs.Common.{rules}
 use native.Mathlib.Nat.{add-zero}
 use Rattle.stored.specs.Layout.{edge_at, record_in, record_from}
 use Rattle.stored_entries.proofs.edge_in.Goals as goal

@@ -1,6 +1,5 @@
 -- `stored_entries::entry_from`: the entry is all there, or what is left is shorter, or the entries begin past the end.
 -- Assumes nothing.
-use Rattle.std.proofs.Common.{rules}
 use mathlib.Core.Path.{◌≡◌, sym, ap, ◌∙◌}
 use Prim.Native.Nat.{suc, ◌+◌, ◌-◌, ◌*◌}
 use native.Mathlib.Nat.{mul-suc}

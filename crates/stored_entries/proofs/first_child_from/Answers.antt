@@ -1,6 +1,5 @@
 -- `stored_entries::first_child_from` meets its contract: the number where it stands.
 -- Assumes nothing.
-use Rattle.std.proofs.Common.{rules}
 use Rattle.stored.specs.Layout.{record_from}
 use Rattle.stored_entries.proofs.first_child_from.Goals as goal
 

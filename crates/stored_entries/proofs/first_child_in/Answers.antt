@@ -1,6 +1,5 @@
 -- `stored_entries::first_child_in` meets its contract: one field of the record.
 -- Assumes nothing.
-use Rattle.std.proofs.Common.{rules}
 use Rattle.stored.specs.Layout.{record_in}
 use Rattle.stored_entries.proofs.first_child_in.Goals as goal
 

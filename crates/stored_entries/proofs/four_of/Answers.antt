@@ -1,8 +1,6 @@
 -- `stored_entries::four_of`: a number of four bytes is two of two.
 -- Assumes nothing.
-use Rattle.std.proofs.Common.{rules}
-use mathlib.Core.Path.{sym, ◌∙◌}
-use Prim.Native.Nat.{◌+◌, ◌*◌}
+use mathlib.Core.Path.{sym}
 use lib.ListN.{drop}
 use lib.Seq.{drop-drop}
 use Rattle.laws.specs.Numbers.{number_join}

@@ -1,6 +1,5 @@
 -- `stored_entries::held`: past the end nothing is held; else the number against the count tells the slice.
 -- Assumes nothing.
-use Rattle.std.proofs.Common.{rules}
 use mathlib.Core.Path.{sym, ◌∙◌}
 use Rattle.stored.specs.Held.{held_base, held_growth, held_none}
 use Rattle.stored_entries.proofs.held.Goals as goal

@@ -1,6 +1,5 @@
 -- `stored_entries::marks_from` meets its contract: each mark is what its call reads.
 -- Assumes nothing.
-use Rattle.std.proofs.Common.{rules}
 use Rattle.stored_entries.proofs.marks_from.Goals as goal
 
 pub returns : goal.returns

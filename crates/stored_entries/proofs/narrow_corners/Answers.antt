@@ -1,6 +1,5 @@
 -- `stored_entries::narrow_corners` meets its contract: each corner is what its two bytes say.
 -- Assumes nothing.
-use Rattle.std.proofs.Common.{rules}
 use Rattle.stored_entries.proofs.narrow_corners.Goals as goal
 
 pub returns : goal.returns

@@ -1,6 +1,5 @@
 -- `stored_entries::number_or_none` meets its contract: the number of four bytes as it is, or of two.
 -- Assumes nothing.
-use Rattle.std.proofs.Common.{rules}
 use mathlib.Core.Path.{ap, ◌∙◌}
 use Rattle.stored.specs.Layout.{version1, or_none}
 use Rattle.stored_entries.specs.Formats.{wide_number, narrow_number}

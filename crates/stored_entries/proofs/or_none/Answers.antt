@@ -1,6 +1,5 @@
 -- `stored_entries::or_none`: 65,535 is read as none.
 -- Assumes nothing.
-use Rattle.std.proofs.Common.{rules}
 use borrow.Author.Tests.{eq-eqb, ne_eqb}
 use Rattle.stored.specs.Layout.{or_none}
 use Rattle.stored_entries.proofs.or_none.Goals as goal

@@ -1,6 +1,5 @@
 -- `stored_entries::parents_from` meets its contract: two fields of the vertex.
 -- Assumes nothing.
-use Rattle.std.proofs.Common.{rules}
 use Rattle.stored.specs.Layout.{vertex_from}
 use Rattle.stored_entries.proofs.parents_from.Goals as goal
 

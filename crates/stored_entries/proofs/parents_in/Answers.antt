@@ -1,6 +1,5 @@
 -- `stored_entries::parents_in` meets its contract: two fields of the vertex.
 -- Assumes nothing.
-use Rattle.std.proofs.Common.{rules}
 use Rattle.stored.specs.Layout.{vertex_in}
 use Rattle.stored_entries.proofs.parents_in.Goals as goal
 

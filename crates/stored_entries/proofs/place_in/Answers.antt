@@ -1,6 +1,5 @@
 -- `stored_entries::place_in` meets its contract: one field of the vertex, which every format stores alike.
 -- Assumes nothing.
-use Rattle.std.proofs.Common.{rules}
 use Rattle.stored.specs.Layout.{vertex_in, vertex_from}
 use Rattle.stored_entries.proofs.place_in.Goals as goal
 

@@ -1,6 +1,5 @@
 -- `stored_entries::record_in` meets its contract: the record that its entry begins with, all there or not.
 -- Assumes nothing.
-use Rattle.std.proofs.Common.{rules}
 use Rattle.stored.specs.Layout.{record_in}
 use Rattle.stored_entries.proofs.record_in.Goals as goal
 

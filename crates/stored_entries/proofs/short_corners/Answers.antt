@@ -1,6 +1,5 @@
 -- `stored_entries::short_corners` meets its contract: each corner is what its call reads.
 -- Assumes nothing.
-use Rattle.std.proofs.Common.{rules}
 use native.Mathlib.Nat.{mul-zero, mul-one}
 use Rattle.stored.specs.Layout.{number_width}
 use Rattle.stored_entries.proofs.short_corners.Goals as goal

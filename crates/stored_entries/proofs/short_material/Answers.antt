@@ -1,6 +1,5 @@
 -- `stored_entries::short_material` meets its contract: the byte where it stands, as far as it is there.
 -- Assumes nothing.
-use Rattle.std.proofs.Common.{rules}
 use Rattle.stored_entries.proofs.short_material.Goals as goal
 
 pub returns-then-format : goal.returns-then-format

@@ -1,6 +1,5 @@
 -- `stored_entries::short_place` meets its contract: each coordinate is what its call reads.
 -- Assumes nothing.
-use Rattle.std.proofs.Common.{rules}
 use Rattle.stored.specs.Layout.{vertex_from}
 use Rattle.stored_entries.proofs.short_place.Goals as goal
 

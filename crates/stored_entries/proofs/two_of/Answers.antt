@@ -1,6 +1,5 @@
 -- `stored_entries::two_of` meets its contract: the number byte by byte.
 -- Assumes nothing.
-use Rattle.std.proofs.Common.{rules}
 use mathlib.Core.Path.{sym, ◌∙◌}
 use Rattle.laws.specs.Numbers.{number_two}
 use Rattle.stored_entries.proofs.two_of.Goals as goal

@@ -1,6 +1,5 @@
 -- `stored_entries::vertex_in` meets its contract: the vertex that its entry begins with.
 -- Assumes nothing.
-use Rattle.std.proofs.Common.{rules}
 use Rattle.stored.specs.Layout.{vertex_in}
 use Rattle.stored_entries.proofs.vertex_in.Goals as goal
 

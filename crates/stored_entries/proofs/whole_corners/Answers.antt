@@ -1,6 +1,5 @@
 -- `stored_entries::whole_corners` meets its contract: four numbers of four bytes, or of two.
 -- Assumes nothing.
-use Rattle.std.proofs.Common.{rules}
 use mathlib.Core.Path.{◌∙◌}
 use native.Mathlib.Omega.{arith}
 use Rattle.stored_entries.specs.Formats.{wide_width, narrow_width, wide_corners, narrow_corners}

@@ -1,6 +1,5 @@
 -- `stored_entries::whole_material` meets its contract: the byte where it stands.
 -- Assumes nothing.
-use Rattle.std.proofs.Common.{rules}
 use mathlib.Core.Path.{ap}
 use native.Mathlib.Omega.{arith}
 use Rattle.laws.specs.Below.{bit}

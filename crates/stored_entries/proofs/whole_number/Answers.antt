@@ -1,6 +1,5 @@
 -- `stored_entries::whole_number` meets its contract: the number of four bytes as it is, or of two.
 -- Assumes nothing.
-use Rattle.std.proofs.Common.{rules}
 use mathlib.Core.Path.{ap, ◌∙◌}
 use native.Mathlib.Omega.{arith}
 use Rattle.stored.specs.Layout.{version1, or_none}

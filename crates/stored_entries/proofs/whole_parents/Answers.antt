@@ -1,6 +1,5 @@
 -- `stored_entries::whole_parents` meets its contract: two numbers of four bytes, or of two.
 -- Assumes nothing.
-use Rattle.std.proofs.Common.{rules}
 use native.Mathlib.Omega.{arith}
 use Rattle.stored.specs.Layout.{vertex_from}
 use Rattle.stored_entries.specs.Formats.{wide_width, narrow_width, wide_number, narrow_number}

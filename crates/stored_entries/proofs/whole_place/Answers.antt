@@ -1,6 +1,5 @@
 -- `stored_entries::whole_place` meets its contract: each coordinate is what its two bytes say.
 -- Assumes nothing.
-use Rattle.std.proofs.Common.{rules}
 use Rattle.stored.specs.Layout.{vertex_from}
 use Rattle.stored_entries.proofs.whole_place.Goals as goal
 

@@ -1,6 +1,5 @@
 -- `stored_entries::whole_record` meets its contract: each field is what its bytes say.
 -- Assumes nothing.
-use Rattle.std.proofs.Common.{rules}
 use native.Mathlib.Nat.{add-zero}
 use Rattle.stored.specs.Layout.{edge_at, record_from}
 use Rattle.stored_entries.proofs.whole_record.Goals as goal

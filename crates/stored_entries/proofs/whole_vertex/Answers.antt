@@ -1,6 +1,5 @@
 -- `stored_entries::whole_vertex` meets its contract: each field is what its call reads.
 -- Assumes nothing.
-use Rattle.std.proofs.Common.{rules}
 use Rattle.stored.specs.Layout.{vertex_from}
 use Rattle.stored_entries.proofs.whole_vertex.Goals as goal
 

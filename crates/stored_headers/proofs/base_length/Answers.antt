@@ -1,6 +1,5 @@
 -- `stored_headers::base_length`: the length of a mesh with what stands in the base slice.
 -- Assumes nothing.
-use Rattle.std.proofs.Common.{rules}
 use Rattle.stored_headers.proofs.base_length.Goals as goal
 
 pub returns : goal.returns

@@ -1,6 +1,5 @@
 -- `stored_headers::grown_length`: the bytes of what stands in the growth slice.
 -- Assumes nothing.
-use Rattle.std.proofs.Common.{rules}
 use Rattle.stored_headers.proofs.grown_length.Goals as goal
 
 pub returns : goal.returns

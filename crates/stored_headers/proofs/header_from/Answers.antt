@@ -1,6 +1,5 @@
 -- `stored_headers::header_from` meets its contract: each field is the number that its call reads.
 -- Assumes nothing.
-use Rattle.std.proofs.Common.{rules}
 use native.Mathlib.Nat.{mul-one}
 use Rattle.stored.specs.Layout.{header_from}
 use Rattle.stored_headers.proofs.header_from.Goals as goal

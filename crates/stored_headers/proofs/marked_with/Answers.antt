@@ -1,5 +1,4 @@
 -- `stored_headers::marked_with` meets its contract: each test that fails decides, and the last one does where the others hold.
-use Rattle.std.proofs.Common.{rules}
 use borrow.Author.Tests.{eq-eqb, ne_eqb}
 use Rattle.stored.specs.Layout.{marked}
 use Rattle.stored_headers.proofs.marked_with.Goals as goal

@@ -1,6 +1,5 @@
 -- `stored_headers::next_round`: the round after, and all else as it was.
 -- Assumes nothing.
-use Rattle.std.proofs.Common.{rules}
 use Rattle.stored_headers.proofs.next_round.Goals as goal
 
 pub returns : goal.returns

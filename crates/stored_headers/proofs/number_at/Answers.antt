@@ -1,6 +1,5 @@
 -- `stored_headers::number_at`: four bytes or two, by the format.
 -- Assumes nothing.
-use Rattle.std.proofs.Common.{rules}
 use Rattle.stored_headers.proofs.number_at.Goals as goal
 
 pub returns-then-format : goal.returns-then-format

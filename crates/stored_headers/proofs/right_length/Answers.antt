@@ -1,6 +1,5 @@
 -- `stored_headers::right_length` meets its contract: under the header's bytes the first test fails, then each slice's length decides.
 -- Assumes nothing.
-use Rattle.std.proofs.Common.{rules}
 use lib.ListN.{length}
 use borrow.Author.Tests.{lt-leb, le-leb, eq-eqb, ne_eqb}
 use Rattle.stored.specs.Layout.{right_length}

@@ -1,6 +1,5 @@
 -- `stored_headers::right_mark` meets its contract: the zero byte is looked at where the mark is right.
 -- Assumes nothing.
-use Rattle.std.proofs.Common.{rules}
 use mathlib.Core.Path.{◌≡◌, sym, ◌∙◌}
 use mathlib.Core.Bool.{true, false}
 use Rattle.stored.specs.Layout.{version_of, marked, right_mark}

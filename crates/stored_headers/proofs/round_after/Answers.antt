@@ -1,6 +1,5 @@
 -- `stored_headers::round_after`: one more, or 0 after the last.
 -- Assumes nothing.
-use Rattle.std.proofs.Common.{rules}
 use borrow.Author.Tests.{lt-ltb, le-ltb}
 use Rattle.stored.specs.Layout.{last_round}
 use Rattle.stored_headers.proofs.round_after.Goals as goal

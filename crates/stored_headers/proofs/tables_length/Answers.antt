@@ -1,6 +1,5 @@
 -- `stored_headers::tables_length`: its sum is the definition's, and fits, as both widths are small.
 -- Assumes nothing.
-use Rattle.std.proofs.Common.{rules}
 use native.Mathlib.Nat.{mul-le-mul_right}
 use native.Mathlib.Omega.{arith}
 use Rattle.stored_headers.proofs.tables_length.Goals as goal

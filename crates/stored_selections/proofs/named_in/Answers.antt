@@ -1,6 +1,5 @@
 -- `stored_selections::named_in` meets its contract: the number at the entry of what follows the heading, by the format's width.
 -- Assumes nothing.
-use Rattle.std.proofs.Common.{rules}
 use Rattle.stored.specs.Layout.{named_in}
 use Rattle.stored_selections.proofs.named_in.Goals as goal
 

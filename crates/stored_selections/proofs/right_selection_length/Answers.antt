@@ -1,6 +1,5 @@
 -- `stored_selections::right_selection_length` meets its contract: under the heading's bytes the first test fails, else the second decides.
 -- Assumes nothing.
-use Rattle.std.proofs.Common.{rules}
 use lib.ListN.{length}
 use native.Mathlib.Nat.{mul-le-mul_right}
 use native.Mathlib.Omega.{arith}

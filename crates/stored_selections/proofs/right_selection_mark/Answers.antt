@@ -1,6 +1,5 @@
 -- `stored_selections::right_selection_mark` meets its contract: the version is by the format.
 -- Assumes nothing.
-use Rattle.std.proofs.Common.{rules}
 use Rattle.stored.specs.Layout.{right_selection_mark}
 use Rattle.stored_selections.proofs.right_selection_mark.Goals as goal
 

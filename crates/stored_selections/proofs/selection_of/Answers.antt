@@ -1,6 +1,5 @@
 -- `stored_selections::selection_of` meets its contract: each field is the number that its call reads.
 -- Assumes nothing.
-use Rattle.std.proofs.Common.{rules}
 use Rattle.stored.specs.Layout.{selection_of}
 use Rattle.stored_selections.proofs.selection_of.Goals as goal
 

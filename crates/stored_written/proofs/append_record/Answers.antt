@@ -1,6 +1,5 @@
 -- `stored_written::append_record`: the record's bytes, behind the header, so many vertices and so many records.
 -- Assumes nothing.
-use Rattle.std.proofs.Common.{rules}
 use mathlib.Core.Path.{sym, ap₂, ◌∙◌}
 use Prim.Native.Nat.{◌+◌, ◌*◌}
 use native.Mathlib.Nat.{mul-le-mul_right}

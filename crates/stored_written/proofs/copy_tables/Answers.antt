@@ -1,6 +1,5 @@
 -- `stored_written::copy_tables`: the vertices' part, then the records'.
 -- Assumes nothing.
-use Rattle.std.proofs.Common.{rules}
 use mathlib.Core.Path.{ap, ◌∙◌}
 use Prim.Native.Nat.{◌+◌, ◌*◌}
 use native.Mathlib.Nat.{mul-le-mul_right}

@@ -1,6 +1,5 @@
 -- `stored_written::put_header`: the header's bytes, at the beginning.
 -- Assumes nothing.
-use Rattle.std.proofs.Common.{rules}
 use mathlib.Core.Path.{sym, ap, ◌∙◌}
 use native.Mathlib.Omega.{arith}
 use lib.ListN.{take}

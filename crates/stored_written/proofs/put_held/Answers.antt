@@ -1,6 +1,5 @@
 -- `stored_written::put_held`: past the end nothing is written; else the number against the count tells the slice.
 -- Assumes nothing.
-use Rattle.std.proofs.Common.{rules}
 use mathlib.Core.Path.{◌∙◌}
 use Prim.Native.Nat.{◌-◌, ◌<◌}
 use native.Mathlib.Omega.{arith}

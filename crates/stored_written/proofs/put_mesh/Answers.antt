@@ -1,6 +1,5 @@
 -- `stored_written::put_mesh`: the header, the vertices and the records, one after the other.
 -- Assumes nothing.
-use Rattle.std.proofs.Common.{rules}
 use mathlib.Core.Path.{sym, ◌∙◌}
 use Prim.Native.Nat.{◌+◌, ◌*◌}
 use native.Mathlib.Omega.{arith}

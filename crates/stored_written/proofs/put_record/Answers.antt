@@ -1,6 +1,5 @@
 -- `stored_written::put_record`: the bytes, in the slice that holds the entry.
 -- Assumes nothing.
-use Rattle.std.proofs.Common.{rules}
 use mathlib.Core.Path.{sym, ap, ◌∙◌}
 use native.Mathlib.Omega.{arith}
 use lib.ListN.{take}

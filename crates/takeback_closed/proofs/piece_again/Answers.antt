@@ -1,6 +1,5 @@
 -- `takeback_closed::piece_again`: the piece, with what the table has for its corners.
 -- Assumes nothing.
-use Rattle.std.proofs.Common.{rules}
 use Rattle.takeback_remains.specs.Remains.{piece_again}
 use Rattle.takeback_closed.proofs.piece_again.Goals as goal
 

@@ -1,6 +1,5 @@
 -- `takeback_closed::put_closed`: the header, the vertices and the records, one after the other.
 -- Assumes nothing.
-use Rattle.std.proofs.Common.{rules}
 use Rattle.takeback_closed.specs.Closed.{closed_put}
 use Rattle.takeback_closed.proofs.put_closed.Goals as goal
 

@@ -1,6 +1,5 @@
 -- `takeback_closed::put_record`: each way out is one case of the definition, at what the calls return.
 -- Assumes nothing.
-use Rattle.std.proofs.Common.{rules}
 use borrow.Author.Tests.{eq-eqb, ne_eqb}
 use Rattle.takeback_closed.specs.Closed.{entry_put}
 use Rattle.takeback_closed.proofs.put_record.Goals as goal

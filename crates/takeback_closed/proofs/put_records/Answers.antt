@@ -1,13 +1,10 @@
 -- `takeback_closed::put_records`: the records before n are put.
 -- Assumes nothing.
-use Rattle.std.proofs.Common.{rules}
-use Prim.Native.Nat.{◌≤◌, ◌-◌}
-use mathlib.Core.Path.{◌≡◌, sym, ◌∙◌, ap}
+use Prim.Native.Nat.{◌-◌}
+use mathlib.Core.Path.{sym, ◌∙◌, ap}
 use native.Mathlib.Omega.{arith}
 use lib.ListN.{length}
-use Rattle.laws.specs.Counts.{counts_below, counts_none, counts_next, counts_end, counts_long}
-use Rattle.stored.specs.Layout.{record_in}
-use Rattle.takeback_closed.specs.Closed.{record_put}
+use Rattle.laws.specs.Counts.{counts_none, counts_next, counts_end, counts_long}
 use Rattle.takeback_closed.specs.Law.{put_long}
 use Rattle.takeback_closed.proofs.put_records.Goals as goal
 

@@ -1,13 +1,10 @@
 -- `takeback_closed::put_vertices`: the vertices before v are put.
 -- Assumes nothing.
-use Rattle.std.proofs.Common.{rules}
-use Prim.Native.Nat.{◌≤◌, ◌-◌}
-use mathlib.Core.Path.{◌≡◌, sym, ◌∙◌, ap}
+use Prim.Native.Nat.{◌-◌}
+use mathlib.Core.Path.{sym, ◌∙◌, ap}
 use native.Mathlib.Omega.{arith}
 use lib.ListN.{length}
-use Rattle.laws.specs.Counts.{counts_below, counts_none, counts_next, counts_end, counts_long}
-use Rattle.stored.specs.Layout.{vertex_in}
-use Rattle.takeback_closed.specs.Closed.{vertex_put}
+use Rattle.laws.specs.Counts.{counts_none, counts_next, counts_end, counts_long}
 use Rattle.takeback_closed.specs.Law.{put_long}
 use Rattle.takeback_closed.proofs.put_vertices.Goals as goal
 

@@ -1,6 +1,5 @@
 -- `takeback_closed::record_again`: the record, with what the tables have for its corners and its first child.
 -- Assumes nothing.
-use Rattle.std.proofs.Common.{rules}
 use Rattle.takeback_remains.specs.Remains.{record_again}
 use Rattle.takeback_closed.proofs.record_again.Goals as goal
 

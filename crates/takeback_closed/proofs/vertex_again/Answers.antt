@@ -1,6 +1,5 @@
 -- `takeback_closed::vertex_again`: the vertex, with what the table has for its parents.
 -- Assumes nothing.
-use Rattle.std.proofs.Common.{rules}
 use Rattle.takeback_remains.specs.Remains.{vertex_again}
 use Rattle.takeback_closed.proofs.vertex_again.Goals as goal
 

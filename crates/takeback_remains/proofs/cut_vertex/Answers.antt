@@ -1,6 +1,5 @@
 -- `takeback_remains::cut_vertex`: what is found along the links is the vertex with the ends of the refinement edge as parents.
 -- Assumes nothing.
-use Rattle.std.proofs.Common.{rules}
 use Rattle.mesh_parents.specs.Pairs.{vertex_with_is}
 use Rattle.takeback_remains.specs.Remains.{cut_vertex}
 use Rattle.takeback_remains.proofs.cut_vertex.Goals as goal

@@ -1,6 +1,5 @@
 -- `takeback_remains::freed`: each way out is one case of the definition, at what the calls return.
 -- Assumes nothing.
-use Rattle.std.proofs.Common.{rules}
 use borrow.Author.Tests.{eq-eqb, ne_eqb}
 use Rattle.takeback_remains.specs.Remains.{freed}
 use Rattle.takeback_remains.proofs.freed.Goals as goal

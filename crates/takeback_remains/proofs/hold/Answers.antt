@@ -1,6 +1,5 @@
 -- `takeback_remains::hold`: a leaf and a freed record count nothing, any other record once.
 -- Assumes nothing.
-use Rattle.std.proofs.Common.{rules}
 use mathlib.Core.Path.{sym, ◌∙◌}
 use Rattle.takeback_remains.specs.Held.{held_counted}
 use Rattle.takeback_remains.proofs.hold.Goals as goal

@@ -1,13 +1,9 @@
 -- `takeback_remains::hold_all`: the records before n have counted.
 -- Assumes nothing.
-use Rattle.std.proofs.Common.{rules}
-use Prim.Native.Nat.{◌≤◌, ◌-◌}
-use mathlib.Core.Path.{◌≡◌, sym, ◌∙◌, ap}
+use Prim.Native.Nat.{◌-◌}
+use mathlib.Core.Path.{sym}
 use native.Mathlib.Omega.{arith}
-use lib.ListN.{length}
-use Rattle.laws.specs.Counts.{counts_below, counts_none, counts_next, counts_end, counts_long, marked}
-use Rattle.mesh_tables.specs.Tables.{tables}
-use Rattle.takeback_remains.specs.Held.{held_counted, held_marking}
+use Rattle.laws.specs.Counts.{counts_none, counts_next, counts_end}
 use Rattle.takeback_remains.proofs.hold_all.Goals as goal
 
 pub loop-n-init : goal.loop-n-init

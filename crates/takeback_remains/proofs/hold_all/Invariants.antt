@@ -1,12 +1,10 @@
 -- `takeback_remains::hold_all`: the records before n have counted.
 -- Assumes nothing.
 use Prim.Native.Nat.{◌≤◌, ◌-◌}
-use mathlib.Core.Path.{◌≡◌, sym, ◌∙◌, ap}
-use native.Mathlib.Omega.{arith}
-use lib.ListN.{length}
-use Rattle.laws.specs.Counts.{counts_below, counts_none, counts_next, counts_end, counts_long, marked}
+use mathlib.Core.Path.{◌≡◌}
+use Rattle.laws.specs.Counts.{counts_below, marked}
 use Rattle.mesh_tables.specs.Tables.{tables}
-use Rattle.takeback_remains.specs.Held.{held_counted, held_marking}
+use Rattle.takeback_remains.specs.Held.{held_counted}
 use Rattle.takeback_remains.proofs.hold_all.Given as goal
 
 abbrev pub invariant-loop-n : goal.invariant-loop-n

@@ -1,6 +1,5 @@
 -- `takeback_remains::is_cramped`: each way out is one case of the definition, at what the calls return.
 -- Assumes nothing.
-use Rattle.std.proofs.Common.{rules}
 use mathlib.Core.Path.{sym, ◌∙◌}
 use borrow.Author.Tests.{lt-ltb, le-ltb}
 use Rattle.takeback_remains.specs.Left.{cramped}

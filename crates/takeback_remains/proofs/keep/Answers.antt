@@ -1,8 +1,6 @@
 -- `takeback_remains::keep`: a record that stays cut counts twice, any other nothing.
 -- Assumes nothing.
-use Rattle.std.proofs.Common.{rules}
 use mathlib.Core.Path.{sym, ◌∙◌}
-use borrow.Author.Tests.{not-true, not-false}
 use Rattle.takeback_remains.specs.Held.{kept_counted}
 use Rattle.takeback_remains.proofs.keep.Goals as goal
 

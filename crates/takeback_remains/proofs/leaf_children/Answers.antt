@@ -1,8 +1,6 @@
 -- `takeback_remains::leaf_children`: each way out is one case of the definition, at what the calls return.
 -- Assumes nothing.
-use Rattle.std.proofs.Common.{rules}
 use mathlib.Core.Path.{sym, ◌∙◌}
-use borrow.Author.Tests.{not-true, not-false}
 use Rattle.takeback_remains.specs.Remains.{leaf_children}
 use Rattle.takeback_remains.proofs.leaf_children.Goals as goal
 

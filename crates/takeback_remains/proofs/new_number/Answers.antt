@@ -1,6 +1,5 @@
 -- `takeback_remains::new_number` reads the table, and past its end none.
 -- Assumes nothing.
-use Rattle.std.proofs.Common.{rules}
 use mathlib.Core.Path.{sym}
 use lib.ListN.{get_or-eq_default}
 use Rattle.stored.specs.Layout.{none}

@@ -1,13 +1,10 @@
 -- `takeback_remains::number`: the numbers below x have their new ones, and `next` is how many of them remain.
 -- Assumes nothing.
-use Rattle.std.proofs.Common.{rules}
 use Prim.Native.Nat.{◌-◌}
 use mathlib.Core.Path.{sym, ◌∙◌}
 use native.Mathlib.Omega.{arith}
-use borrow.Author.Tests.{not-true, not-false}
-use lib.ListN.{length}
 use Rattle.laws.specs.Below.{count_at_most}
-use Rattle.takeback_remains.specs.Numbers.{Numbering, numbering_none, numbering_gone, numbering_stays, numbering_all}
+use Rattle.takeback_remains.specs.Numbers.{numbering_none, numbering_gone, numbering_stays, numbering_all}
 use Rattle.takeback_remains.specs.Held.{remains_by, remains_below}
 use Rattle.takeback_remains.proofs.number.Goals as goal
 

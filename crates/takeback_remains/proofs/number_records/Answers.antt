@@ -1,6 +1,5 @@
 -- `takeback_remains::number_records`: a record remains as the counts of those that keep it say.
 -- Assumes nothing.
-use Rattle.std.proofs.Common.{rules}
 use Prim.Native.Nat.{ℕ}
 use mathlib.Core.Path.{◌≡◌, ◌∙◌, ap}
 use mathlib.Core.List.{List}

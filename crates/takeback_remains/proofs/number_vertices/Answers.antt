@@ -1,6 +1,5 @@
 -- `takeback_remains::number_vertices`: a vertex remains as the counts of those that hold it say.
 -- Assumes nothing.
-use Rattle.std.proofs.Common.{rules}
 use Prim.Native.Nat.{ℕ}
 use mathlib.Core.Path.{◌∙◌, ap}
 use mathlib.Core.List.{List}

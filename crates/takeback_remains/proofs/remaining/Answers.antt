@@ -1,6 +1,5 @@
 -- `takeback_remains::remaining`: each way out is one case of the definition; the links are filled before they are asked.
 -- Assumes nothing.
-use Rattle.std.proofs.Common.{rules}
 use mathlib.Core.Path.{◌≡◌, sym, ◌∙◌}
 use mathlib.Core.Bool.{false}
 use native.Mathlib.Omega.{arith}

@@ -1,6 +1,5 @@
 -- `takeback_remains::remains`: each way out is one case of the definition, at what the calls return.
 -- Assumes nothing.
-use Rattle.std.proofs.Common.{rules}
 use borrow.Author.Tests.{lt-ltb, le-ltb}
 use Rattle.takeback_remains.specs.Held.{remains_by}
 use Rattle.takeback_remains.proofs.remains.Goals as goal

@@ -1,6 +1,5 @@
 -- `takeback_remains::stays_cut`: each way out is one case of the definition, at what the calls return.
 -- Assumes nothing.
-use Rattle.std.proofs.Common.{rules}
 use mathlib.Core.Path.{sym, ◌∙◌}
 use Rattle.takeback_remains.specs.Held.{stays_by}
 use Rattle.takeback_remains.proofs.stays_cut.Goals as goal

@@ -1,6 +1,5 @@
 -- `takeback_service::is_uncut` reads the record that is named.
 -- Assumes nothing.
-use Rattle.std.proofs.Common.{rules}
 use Rattle.takeback_service.proofs.is_uncut.Goals as goal
 
 pub returns : goal.returns

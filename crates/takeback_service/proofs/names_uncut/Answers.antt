@@ -1,13 +1,10 @@
 -- `takeback_service::names_uncut`: none of the records named before i is uncut.
 -- Assumes nothing.
-use Rattle.std.proofs.Common.{rules}
-use Prim.Native.Nat.{◌≤◌, ◌-◌}
-use mathlib.Core.Path.{◌≡◌, sym, ◌∙◌}
+use Prim.Native.Nat.{◌-◌}
+use mathlib.Core.Path.{sym, ◌∙◌}
 use mathlib.Core.Bool.{false}
 use native.Mathlib.Omega.{arith}
-use Rattle.laws.specs.Below.{any_below, any_none, any_next, any_is, any_end}
-use Rattle.stored.specs.Layout.{selection_in, named_in, record_in}
-use Rattle.mesh_tables.specs.Tables.{uncut}
+use Rattle.laws.specs.Below.{any_none, any_next, any_is, any_end}
 use Rattle.takeback_service.specs.TakeBack.{names_uncut}
 use Rattle.takeback_service.proofs.names_uncut.Goals as goal
 

@@ -1,13 +1,11 @@
 -- `takeback_service::names_uncut`: none of the records named before i is uncut.
 -- Assumes nothing.
 use Prim.Native.Nat.{◌≤◌, ◌-◌}
-use mathlib.Core.Path.{◌≡◌, sym, ◌∙◌}
+use mathlib.Core.Path.{◌≡◌}
 use mathlib.Core.Bool.{false}
-use native.Mathlib.Omega.{arith}
-use Rattle.laws.specs.Below.{any_below, any_none, any_next, any_is, any_end}
+use Rattle.laws.specs.Below.{any_below}
 use Rattle.stored.specs.Layout.{selection_in, named_in, record_in}
 use Rattle.mesh_tables.specs.Tables.{uncut}
-use Rattle.takeback_service.specs.TakeBack.{names_uncut}
 use Rattle.takeback_service.proofs.names_uncut.Given as goal
 
 abbrev pub invariant-loop-i : goal.invariant-loop-i

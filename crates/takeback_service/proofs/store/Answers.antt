@@ -1,6 +1,5 @@
 -- `takeback_service::store`: 20, or the mesh that is left, by the tables that are filled.
 -- Assumes nothing.
-use Rattle.std.proofs.Common.{rules}
 use mathlib.Core.Path.{◌≡◌, ap, ◌∙◌}
 use mathlib.Core.List.{List, []}
 use Prim.Native.Nat.{ℕ}

@@ -1,6 +1,5 @@
 -- `takeback_service::take_back`: the rules in their order; the buffer is cleared before the first.
 -- Assumes nothing.
-use Rattle.std.proofs.Common.{rules}
 use mathlib.Core.Path.{◌≡◌, sym, ap, subst, ◌∙◌}
 use mathlib.Core.List.{List, []}
 use Prim.Native.Nat.{ℕ}
