@@ -5,7 +5,7 @@ use Rattle.std.proofs.Common.{sym, ap, ◌∙◌, ⊎_elim, arith}
 use Rattle.laws.specs.Lists.{zero_past}
 use Rattle.laws.specs.Below.{same_tests}
 use Rattle.stored.specs.Layout.{kind1, Stored, of_kind, stored1, StoredSelection, named_in}
-use Rattle.refine_meaning.specs.Rows.{K-coordinates, K-corners, K}
+use Rattle.refine_meaning.specs.Rows.{k_coordinates, k_corners, K}
 use Rattle.cuts_names.specs.Lists.{both_ways}
 use Rattle.cuts_names.specs.Pieces.{Node}
 use Rattle.cuts.specs.Sets.{Leaf}
@@ -13,17 +13,17 @@ use Rattle.demands_words.specs.Words.{full_size, StoredMesh, ArgumentTypes, coun
 use Rattle.demands_words.specs.Services.{Services, ours}
 use Rattle.demands.specs.Demand2.{MeetsDemand2, demand_2}
 use Rattle.demands.specs.Demand3.{RefinedFrom, MeetsDemand3, demand_3, any_room, accepted_good, result}
-use Rattle.demands_proofs.specs.WorkedMeshes.{K-types, K-accepts, K-job-7, K-job-8, K-next, none_named, first_named, K-raised, K-raised-again, K-next-cut, K-copied-round, K-raised-round, K-raised-again-round, none_counted, first_counted, K-stored, K-next-stored, K-first-round, K-later-round}
+use Rattle.demands_proofs.specs.WorkedMeshes.{k_types, k_accepts, k_job_7, k_job_8, k_next, none_named, first_named, k_raised, k_raised_again, k_next_cut, k_copied_round, k_raised_round, k_raised_again_round, none_counted, first_counted, k_stored, k_next_stored, k_first_round, k_later_round}
 
 -- The selections are good.
-none_good : GoodFor K-stored (none_named 0)
-none_good = accepted_good (stored1 K) K-stored (none_named 0) 77 K-raised
+none_good : GoodFor k_stored (none_named 0)
+none_good = accepted_good (stored1 K) k_stored (none_named 0) 77 k_raised
 
-none_good_again : GoodFor K-next-stored (none_named 1)
-none_good_again = accepted_good (stored1 K-next) K-next-stored (none_named 1) 77 K-raised-again
+none_good_again : GoodFor k_next_stored (none_named 1)
+none_good_again = accepted_good (stored1 k_next) k_next_stored (none_named 1) 77 k_raised_again
 
-first_good : GoodFor K-next-stored first_named
-first_good = accepted_good (stored1 K-next) K-next-stored first_named 121 K-next-cut
+first_good : GoodFor k_next_stored first_named
+first_good = accepted_good (stored1 k_next) k_next_stored first_named 121 k_next_cut
 
 -- ======== demand 2
 
@@ -65,25 +65,25 @@ module _ (S : Services) (m : MeetsDemand2 S) where
         λ e. m.closing s x selection good room e ∙ sym (demand_2.closing s x selection good room (own.1 (theirs.0 e))),
       )
 
-  accepts_k : (job : ℕ) → job < 4294967296 → S.build job K-coordinates K-corners 77 ≡ 0
-  accepts_k job small = (m.build_accepts job K-coordinates K-corners (K-types job small) 77).1 K-accepts
+  accepts_k : (job : ℕ) → job < 4294967296 → S.build job k_coordinates k_corners 77 ≡ 0
+  accepts_k job small = (m.build_accepts job k_coordinates k_corners (k_types job small) 77).1 k_accepts
 
-  builds_k : (job : ℕ) (small : job < 4294967296) → S.build_out job K-coordinates K-corners 77 ≡ ours.build_out job K-coordinates K-corners 77
-  builds_k job small = (builds_ours job K-coordinates K-corners (K-types job small) 77).1 (accepts_k job small)
+  builds_k : (job : ℕ) (small : job < 4294967296) → S.build_out job k_coordinates k_corners 77 ≡ ours.build_out job k_coordinates k_corners 77
+  builds_k job small = (builds_ours job k_coordinates k_corners (k_types job small) 77).1 (accepts_k job small)
 
   raises_k : S.refine (stored1 K) (none_named 0) 77 ≡ 0
-  raises_k = (refines_ours (stored1 K) K-stored (none_named 0) none_good 77).0.1 K-raised
+  raises_k = (refines_ours (stored1 K) k_stored (none_named 0) none_good 77).0.1 k_raised
 
-  raises_k_again : S.refine (stored1 K-next) (none_named 1) 77 ≡ 0
-  raises_k_again = (refines_ours (stored1 K-next) K-next-stored (none_named 1) none_good_again 77).0.1 K-raised-again
+  raises_k_again : S.refine (stored1 k_next) (none_named 1) 77 ≡ 0
+  raises_k_again = (refines_ours (stored1 k_next) k_next_stored (none_named 1) none_good_again 77).0.1 k_raised_again
 
   -- "One that refuses everything": every mesh,
   pub refuses_every_mesh : ((s : Stored) → (S.check s).number ≢ 0) → ⊥
-  refuses_every_mesh refuses = refuses (stored1 K) ((m.accepted_exactly (stored1 K)).1 K-stored).1
+  refuses_every_mesh refuses = refuses (stored1 K) ((m.accepted_exactly (stored1 K)).1 k_stored).1
 
   -- every list,
   pub refuses_every_list : ((job : ℕ) (coordinates : List ℤ) (corners : List ℕ) (room : ℕ) → S.build job coordinates corners room ≢ 0) → ⊥
-  refuses_every_list refuses = refuses 7 K-coordinates K-corners 77 (accepts_k 7 (omega arith))
+  refuses_every_list refuses = refuses 7 k_coordinates k_corners 77 (accepts_k 7 (omega arith))
 
   -- every selection.
   pub refuses_every_selection : ((mesh : Stored) (selection : StoredSelection) (room : ℕ) → S.refine mesh selection room ≢ 0) → ⊥
@@ -93,26 +93,26 @@ module _ (S : Services) (m : MeetsDemand2 S) where
   pub builds_the_same_mesh : (same : List ℕ) →
       ((job : ℕ) (coordinates : List ℤ) (corners : List ℕ) (room : ℕ) → S.build job coordinates corners room ≡ 0 → S.build_out job coordinates corners room ≡ zero_past room same) → ⊥
   builds_the_same_mesh same habit =
-      let seven = sym (habit 7 K-coordinates K-corners 77 (accepts_k 7 (omega arith))) ∙ builds_k 7 (omega arith) in
-      let eight = sym (habit 8 K-coordinates K-corners 77 (accepts_k 8 (omega arith))) ∙ builds_k 8 (omega arith) in
+      let seven = sym (habit 7 k_coordinates k_corners 77 (accepts_k 7 (omega arith))) ∙ builds_k 7 (omega arith) in
+      let eight = sym (habit 8 k_coordinates k_corners 77 (accepts_k 8 (omega arith))) ∙ builds_k 8 (omega arith) in
       let both = ap (λ (l : List ℕ). get_or l 5 0) (sym seven ∙ eight) in
-      omega (arith, both, K-job-7, K-job-8)
+      omega (arith, both, k_job_7, k_job_8)
 
   -- refine, in rounds 0 and 1.
   pub refines_to_the_same_mesh : (same : List ℕ) →
       ((mesh : Stored) (selection : StoredSelection) (room : ℕ) → S.refine mesh selection room ≡ 0 → S.refine_out mesh selection room ≡ zero_past room same) → ⊥
   refines_to_the_same_mesh same habit =
-      let first = sym (habit (stored1 K) (none_named 0) 77 raises_k) ∙ (refines_ours (stored1 K) K-stored (none_named 0) none_good 77).1 raises_k in
-      let second = sym (habit (stored1 K-next) (none_named 1) 77 raises_k_again) ∙ (refines_ours (stored1 K-next) K-next-stored (none_named 1) none_good_again 77).1 raises_k_again in
+      let first = sym (habit (stored1 K) (none_named 0) 77 raises_k) ∙ (refines_ours (stored1 K) k_stored (none_named 0) none_good 77).1 raises_k in
+      let second = sym (habit (stored1 k_next) (none_named 1) 77 raises_k_again) ∙ (refines_ours (stored1 k_next) k_next_stored (none_named 1) none_good_again 77).1 raises_k_again in
       let both = ap (λ (l : List ℕ). get_or l 9 0) (sym first ∙ second) in
-      omega (arith, both, K-raised-round, K-raised-again-round)
+      omega (arith, both, k_raised_round, k_raised_again_round)
 
   -- "or copies its input".
   pub copies_its_input : ((mesh : Stored) (selection : StoredSelection) (room : ℕ) → S.refine mesh selection room ≡ 0 → S.refine_out mesh selection room ≡ zero_past room mesh.base) → ⊥
   copies_its_input habit =
-      let out = sym (habit (stored1 K) (none_named 0) 77 raises_k) ∙ (refines_ours (stored1 K) K-stored (none_named 0) none_good 77).1 raises_k in
+      let out = sym (habit (stored1 K) (none_named 0) 77 raises_k) ∙ (refines_ours (stored1 K) k_stored (none_named 0) none_good 77).1 raises_k in
       let both = ap (λ (l : List ℕ). get_or l 9 0) out in
-      omega (arith, both, K-raised-round, K-copied-round)
+      omega (arith, both, k_raised_round, k_copied_round)
 
   -- "So does one that reports invented leaves, depth or volume": other than the set's, of some stored mesh.
   pub invents_leaves : (s : Stored) → StoredMesh s → (S.check s).leaves ≢ (ours.check s).leaves → ⊥
@@ -157,21 +157,21 @@ module _ (S : Services) (m : MeetsDemand3 S) where
       ((s : Stored) (x : StoredMesh s) (selection : StoredSelection) (room : ℕ) → x.round ≡ 0 → S.refine s selection room ≡ 0 →
       (mesh : List ℕ) (y : StoredMesh (of_kind s mesh [])) → S.refine_out s selection room ≡ zero_past room mesh → (n : Node) → Leaf x.cuts n → y.cuts.has n ≡ true) → ⊥
   cuts_everything_at_first habit =
-      let x = K-stored in
-      let accepted = accepts (stored1 K) refl x (none_named 0) none_good (any_room (stored1 K) refl x (none_named 0) 77 K-raised) (full_size kind1) (omega arith) in
+      let x = k_stored in
+      let accepted = accepts (stored1 K) refl x (none_named 0) none_good (any_room (stored1 K) refl x (none_named 0) 77 k_raised) (full_size kind1) (omega arith) in
       let r = (m.least_or_full (stored1 K) refl x (none_named 0) none_good (full_size kind1) (omega arith)).refined accepted in
       let (n, leaf, is) = (demand_2.figures (stored1 K) x).deepest_reached in
-      let cut = habit (stored1 K) x (none_named 0) (full_size kind1) K-first-round accepted r.mesh (result (stored1 K) x (none_named 0) (S.refine_out (stored1 K) (none_named 0) (full_size kind1)) (full_size kind1) r) r.written n leaf in
+      let cut = habit (stored1 K) x (none_named 0) (full_size kind1) k_first_round accepted r.mesh (result (stored1 K) x (none_named 0) (S.refine_out (stored1 K) (none_named 0) (full_size kind1)) (full_size kind1) r) r.written n leaf in
       both_ways (r.least.inside x.cuts old_closes n cut) leaf.uncut
     where
-      old_closes : Closes K-stored.base K-stored.cuts (SelectedPiece K-stored.stores.numbers (none_named 0)) K-stored.cuts
+      old_closes : Closes k_stored.base k_stored.cuts (SelectedPiece k_stored.stores.numbers (none_named 0)) k_stored.cuts
       old_closes =
           record {
             keeps = λ n t. t;
             selected_cut = λ n (i, l, is). absurd (omega (arith, l, none_counted));
-            none_hangs = K-stored.right.none_hangs;
-            cuts = K-stored.right.fits.cuts;
-            cuts_listed_lem = K-stored.right.fits.cuts_listed_lem;
+            none_hangs = k_stored.right.none_hangs;
+            cuts = k_stored.right.fits.cuts;
+            cuts_listed_lem = k_stored.right.fits.cuts_listed_lem;
           }
 
   -- "and afterwards only raises the round": in later rounds what was not cut is not cut in what it hands back. "In later rounds the selected pieces stay
@@ -180,10 +180,10 @@ module _ (S : Services) (m : MeetsDemand3 S) where
       ((s : Stored) (x : StoredMesh s) (selection : StoredSelection) (room : ℕ) → 0 < x.round → S.refine s selection room ≡ 0 →
       (mesh : List ℕ) (y : StoredMesh (of_kind s mesh [])) → S.refine_out s selection room ≡ zero_past room mesh → (n : Node) → x.cuts.has n ≡ false → y.cuts.has n ≡ false) → ⊥
   only_raises_later habit =
-      let x = K-next-stored in
-      let accepted = accepts (stored1 K-next) refl x first_named first_good (any_room (stored1 K-next) refl x first_named 121 K-next-cut) (full_size kind1) (omega arith) in
-      let r = (m.least_or_full (stored1 K-next) refl x first_named first_good (full_size kind1) (omega arith)).refined accepted in
+      let x = k_next_stored in
+      let accepted = accepts (stored1 k_next) refl x first_named first_good (any_room (stored1 k_next) refl x first_named 121 k_next_cut) (full_size kind1) (omega arith) in
+      let r = (m.least_or_full (stored1 k_next) refl x first_named first_good (full_size kind1) (omega arith)).refined accepted in
       let first : 0 < count_in first_named = omega (arith, first_counted) in
       let n = x.stores.numbers.node_at (named_in first_named 0) in
-      let stays = habit (stored1 K-next) x first_named (full_size kind1) K-later-round accepted r.mesh (result (stored1 K-next) x first_named (S.refine_out (stored1 K-next) first_named (full_size kind1)) (full_size kind1) r) r.written n (first_good.uncut 0 first) in
+      let stays = habit (stored1 k_next) x first_named (full_size kind1) k_later_round accepted r.mesh (result (stored1 k_next) x first_named (S.refine_out (stored1 k_next) first_named (full_size kind1)) (full_size kind1) r) r.written n (first_good.uncut 0 first) in
       both_ways (r.least.one_of_them.selected_cut n (0, first, λ i. n)) stays

@@ -1,4 +1,4 @@
--- Demand 3. "From an accepted mesh, a full_size output buffer and a selection that earns none of refusals 11 to 18, consider every set of further
+-- Demand 3. "From an accepted mesh, a full-size output buffer and a selection that earns none of refusals 11 to 18, consider every set of further
 -- cuts that cuts each selected piece and leaves no hanging edge. Ours is one of them and is inside all of them, so none has fewer pieces; “tables
 -- full” is answered exactly when none fits. Shared faces carry one mark, the summed volume is unchanged, and no piece is deeper than the least
 -- multiple of three that reaches both the deepest piece before and the children of the selected ones."
@@ -112,7 +112,7 @@ LeastOrFullFrom {s} x selection number bytes room = LeastOrFull s x.job x.round 
 -- ---- the demand
 
 pub record MeetsDemand3 (S : Services) : Type 0 where
-  -- For every stored mesh of a kind in one buffer, every good selection and every full_size buffer.
+  -- For every stored mesh of a kind in one buffer, every good selection and every full-size buffer.
   pub least_or_full : (s : Stored) → s.kind.two ≡ false → (x : StoredMesh s) (selection : StoredSelection) → GoodFor x selection → (room : ℕ) → full_size s.kind ≤ room →
       LeastOrFullFrom x selection (S.refine s selection room) (S.refine_out s selection room) room
 

@@ -16,7 +16,7 @@ use Rattle.check_meaning.specs.Volumes.{signed}
 use Rattle.check_meaning.proofs.Volumes.{children_halve_signed, every_right_handed}
 use Rattle.build_service.specs.Build.{build_number, build_bytes}
 use Rattle.build_meaning.specs.Rows.{computed as build_computed}
-use Rattle.refine_meaning.specs.Rows.{K-coordinates, K, computed as refine_computed}
+use Rattle.refine_meaning.specs.Rows.{k_coordinates, K, computed as refine_computed}
 use Rattle.cuts.specs.Depth.{there_rooted}
 use Rattle.demands_words.specs.Words as Words
 use Rattle.demands_words.specs.Words.{StoredMesh, plain_base, built_base, AsGiven, BuildAccepts}
@@ -55,32 +55,32 @@ built_as_given coordinates corners room asked = as_given coordinates corners ask
 -- ---- K, worked by hand
 
 -- "K is right-handed and keeps its row": its sixfold volume is its signed value.
-pub K-signed : signed (tables_of (stored1 K)) 0 ≡ pos 262144
+pub k_signed : signed (tables_of (stored1 K)) 0 ≡ pos 262144
 unfolding refine_computed signed_at
-K-signed = refl
+k_signed = refl
 
 -- With its last two corners listed the other way round it is left-handed, and build stores K all the same, to the byte.
-abbrev K-turned : List ℕ
-K-turned = 0 ∷ 1 ∷ 3 ∷ 2 ∷ []
+abbrev k_turned : List ℕ
+k_turned = 0 ∷ 1 ∷ 3 ∷ 2 ∷ []
 
-pub K-turned-accepted : build_number 7 K-coordinates K-turned 77 ≡ 0
+pub k_turned_accepted : build_number 7 k_coordinates k_turned 77 ≡ 0
 unfolding build_computed
-K-turned-accepted = refl
+k_turned_accepted = refl
 
-pub K-turned-bytes : build_bytes 7 K-coordinates K-turned 77 ≡ K
+pub k_turned_bytes : build_bytes 7 k_coordinates k_turned 77 ≡ K
 unfolding build_computed refine_computed
-K-turned-bytes = refl
+k_turned_bytes = refl
 
 -- K's bytes with the corners in slots 2 and 3 of its record exchanged: 22, whatever its marks are then.
-pub K-left-refused : check_number (stored1 (sets K 64 (3 ∷ 0 ∷ 2 ∷ 0 ∷ []))) ≡ 22
+pub k_left_refused : check_number (stored1 (sets K 64 (3 ∷ 0 ∷ 2 ∷ 0 ∷ []))) ≡ 22
 unfolding refine_computed check_number
-K-left-refused = refl
+k_left_refused = refl
 
 -- With an edge code above 5 besides, which is 6: 22 is tried before. With a flag set besides, which is 5: 5 is tried before.
-pub K-left-before-6 : check_number (stored1 (sets K 64 (3 ∷ 0 ∷ 2 ∷ 0 ∷ 9 ∷ []))) ≡ 22
+pub k_left_before_6 : check_number (stored1 (sets K 64 (3 ∷ 0 ∷ 2 ∷ 0 ∷ 9 ∷ []))) ≡ 22
 unfolding refine_computed check_number
-K-left-before-6 = refl
+k_left_before_6 = refl
 
-pub K-left-after-5 : check_number (stored1 (sets (sets K 64 (3 ∷ 0 ∷ 2 ∷ 0 ∷ [])) 73 (1 ∷ []))) ≡ 5
+pub k_left_after_5 : check_number (stored1 (sets (sets K 64 (3 ∷ 0 ∷ 2 ∷ 0 ∷ [])) 73 (1 ∷ []))) ≡ 5
 unfolding refine_computed check_number
-K-left-after-5 = refl
+k_left_after_5 = refl

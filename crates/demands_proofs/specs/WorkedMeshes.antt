@@ -9,7 +9,7 @@ use Rattle.mesh_tables.specs.Tables.{tables_of}
 use Rattle.build_service.specs.Build.{build_number, build_bytes}
 use Rattle.build_meaning.specs.Rows.{computed as build_computed}
 use Rattle.refine_service.specs.Refine.{refine_number, refine_bytes}
-use Rattle.refine_meaning.specs.Rows.{K-coordinates, K-corners, K, K-of, selecting, computed as refine_computed}
+use Rattle.refine_meaning.specs.Rows.{k_coordinates, k_corners, K, k_of, selecting, computed as refine_computed}
 use Rattle.demands_words.specs.Words.{I16, ArgumentTypes, StoredMesh, BuildAccepts, count_in}
 use Rattle.demands_proofs.specs.RefineNumbers.{refine_accepts_all}
 use Rattle.demands_proofs.specs.StoredOf.{stored_of_accepted}
@@ -43,35 +43,35 @@ near = record { least = record { le = tt }; greatest = record { le = tt } }
 far : I16 (pos 64)
 far = record { least = record { le = tt }; greatest = record { le = tt } }
 
-pub K-types : (job : ℕ) → job < 4294967296 → ArgumentTypes job K-coordinates K-corners
-K-types job small =
+pub k_types : (job : ℕ) → job < 4294967296 → ArgumentTypes job k_coordinates k_corners
+k_types job small =
     record {
       u32_job = small;
-      i16_coordinates = each_i16 K-coordinates (near, (near, (near, (far, (near, (near, (far, (far, (near, (far, (far, (far, tt))))))))))));
-      u16_corners = each_u16 K-corners (omega arith, (omega arith, (omega arith, (omega arith, tt))));
+      i16_coordinates = each_i16 k_coordinates (near, (near, (near, (far, (near, (near, (far, (far, (near, (far, (far, (far, tt))))))))))));
+      u16_corners = each_u16 k_corners (omega arith, (omega arith, (omega arith, (omega arith, tt))));
     }
 
 -- Build accepts K for every job: nothing that it asks looks at the job.
-built_7 : build_number 7 K-coordinates K-corners 77 ≡ 0
+built_7 : build_number 7 k_coordinates k_corners 77 ≡ 0
 unfolding build_computed
 built_7 = refl
 
-pub K-accepts : BuildAccepts K-coordinates K-corners 77
-K-accepts = (build_exactly 7 K-coordinates K-corners 77 (given_by_types 7 K-coordinates K-corners (K-types 7 (omega arith)))).gives_0.0 built_7
+pub k_accepts : BuildAccepts k_coordinates k_corners 77
+k_accepts = (build_exactly 7 k_coordinates k_corners 77 (given_by_types 7 k_coordinates k_corners (k_types 7 (omega arith)))).gives_0.0 built_7
 
 -- "job (u32) at 5"
-pub K-job-7 : get_or (build_bytes 7 K-coordinates K-corners 77) 5 0 ≡ 7
+pub k_job_7 : get_or (build_bytes 7 k_coordinates k_corners 77) 5 0 ≡ 7
 unfolding build_computed
-K-job-7 = refl
+k_job_7 = refl
 
-pub K-job-8 : get_or (build_bytes 8 K-coordinates K-corners 77) 5 0 ≡ 8
+pub k_job_8 : get_or (build_bytes 8 k_coordinates k_corners 77) 5 0 ≡ 8
 unfolding build_computed
-K-job-8 = refl
+k_job_8 = refl
 
 -- ---- stored meshes
 
-abbrev pub K-next : List ℕ
-K-next = K-of 1
+abbrev pub k_next : List ℕ
+k_next = k_of 1
 
 -- Nothing is named; record 0 is.
 abbrev pub none_named : ℕ → StoredSelection
@@ -81,30 +81,30 @@ abbrev pub first_named : StoredSelection
 first_named = selection1 (selecting 7 1 1 (0 ∷ []))
 
 -- Refine accepts them, with just the room that the result takes.
-pub K-raised : refine_number (stored1 K) (none_named 0) 77 ≡ 0
+pub k_raised : refine_number (stored1 K) (none_named 0) 77 ≡ 0
 unfolding refine_computed
-K-raised = refl
+k_raised = refl
 
-pub K-raised-again : refine_number (stored1 K-next) (none_named 1) 77 ≡ 0
+pub k_raised_again : refine_number (stored1 k_next) (none_named 1) 77 ≡ 0
 unfolding refine_computed
-K-raised-again = refl
+k_raised_again = refl
 
-pub K-next-cut : refine_number (stored1 K-next) first_named 121 ≡ 0
+pub k_next_cut : refine_number (stored1 k_next) first_named 121 ≡ 0
 unfolding refine_computed
-K-next-cut = refl
+k_next_cut = refl
 
 -- "round (u16) at 9": it rises, and a copy has the old one.
-pub K-copied-round : get_or (zero_past 77 K) 9 0 ≡ 0
+pub k_copied_round : get_or (zero_past 77 K) 9 0 ≡ 0
 unfolding refine_computed
-K-copied-round = refl
+k_copied_round = refl
 
-pub K-raised-round : get_or (refine_bytes (stored1 K) (none_named 0) 77) 9 0 ≡ 1
+pub k_raised_round : get_or (refine_bytes (stored1 K) (none_named 0) 77) 9 0 ≡ 1
 unfolding refine_computed
-K-raised-round = refl
+k_raised_round = refl
 
-pub K-raised-again-round : get_or (refine_bytes (stored1 K-next) (none_named 1) 77) 9 0 ≡ 2
+pub k_raised_again_round : get_or (refine_bytes (stored1 k_next) (none_named 1) 77) 9 0 ≡ 2
 unfolding refine_computed
-K-raised-again-round = refl
+k_raised_again_round = refl
 
 -- How many records the selections name.
 pub none_counted : count_in (none_named 0) ≡ 0
@@ -123,33 +123,33 @@ pub small_bytes : (l : List ℕ) → small l ≡ true → Bytes l
 small_bytes [] t = bytes_none
 small_bytes (x ∷ rest) t = bytes_cons (ltb-true x 256 (and_left (ltb x 256) (small rest) t)) (small_bytes rest (and_right (ltb x 256) (small rest) t))
 
-K-small : small K ≡ true
+k_small : small K ≡ true
 unfolding refine_computed
-K-small = refl
+k_small = refl
 
-K-next-small : small K-next ≡ true
+k_next_small : small k_next ≡ true
 unfolding refine_computed
-K-next-small = refl
+k_next_small = refl
 
-pub K-stored : StoredMesh (stored1 K)
-K-stored = stored_of_accepted (stored1 K) (small_bytes K K-small) bytes_none ((refine_accepts_all (stored1 K) (none_named 0) 77).0 K-raised).accepted
+pub k_stored : StoredMesh (stored1 K)
+k_stored = stored_of_accepted (stored1 K) (small_bytes K k_small) bytes_none ((refine_accepts_all (stored1 K) (none_named 0) 77).0 k_raised).accepted
 
-pub K-next-stored : StoredMesh (stored1 K-next)
-K-next-stored = stored_of_accepted (stored1 K-next) (small_bytes K-next K-next-small) bytes_none ((refine_accepts_all (stored1 K-next) first_named 121).0 K-next-cut).accepted
+pub k_next_stored : StoredMesh (stored1 k_next)
+k_next_stored = stored_of_accepted (stored1 k_next) (small_bytes k_next k_next_small) bytes_none ((refine_accepts_all (stored1 k_next) first_named 121).0 k_next_cut).accepted
 
 -- They are of rounds 0 and 1.
 header_0 : (header_of (stored1 K)).round ≡ 0
 unfolding refine_computed
 header_0 = refl
 
-header_1 : (header_of (stored1 K-next)).round ≡ 1
+header_1 : (header_of (stored1 k_next)).round ≡ 1
 unfolding refine_computed
 header_1 = refl
 
-pub K-first-round : K-stored.round ≡ 0
+pub k_first_round : k_stored.round ≡ 0
 unfolding tables_of
-K-first-round = sym (stored_round (stored1 K) K-stored) ∙ header_0
+k_first_round = sym (stored_round (stored1 K) k_stored) ∙ header_0
 
-pub K-later-round : 0 < K-next-stored.round
+pub k_later_round : 0 < k_next_stored.round
 unfolding tables_of
-K-later-round = let round = stored_round (stored1 K-next) K-next-stored in omega (arith, round, header_1)
+k_later_round = let round = stored_round (stored1 k_next) k_next_stored in omega (arith, round, header_1)

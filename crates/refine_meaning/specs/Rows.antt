@@ -26,11 +26,11 @@ use Rattle.refine_service.specs.Refine.{closed, result_of, refine_selection_rows
 -- ---- K
 
 -- "K: (0,0,0), (64,0,0), (64,64,0), (64,64,64), one piece 0 1 2 3, job 7.": what build is given
-abbrev pub K-coordinates : List ℤ
-K-coordinates = pos 0 ∷ pos 0 ∷ pos 0 ∷ pos 64 ∷ pos 0 ∷ pos 0 ∷ pos 64 ∷ pos 64 ∷ pos 0 ∷ pos 64 ∷ pos 64 ∷ pos 64 ∷ []
+abbrev pub k_coordinates : List ℤ
+k_coordinates = pos 0 ∷ pos 0 ∷ pos 0 ∷ pos 64 ∷ pos 0 ∷ pos 0 ∷ pos 64 ∷ pos 64 ∷ pos 0 ∷ pos 64 ∷ pos 64 ∷ pos 64 ∷ []
 
-abbrev pub K-corners : List ℕ
-K-corners = 0 ∷ 1 ∷ 2 ∷ 3 ∷ []
+abbrev pub k_corners : List ℕ
+k_corners = 0 ∷ 1 ∷ 2 ∷ 3 ∷ []
 
 -- The vertex at these places with these parents. A coordinate's place is 32,768 more.
 abbrev vertex : ℕ → ℕ → ℕ → ℕ → ℕ → Vertex
@@ -51,44 +51,44 @@ mesh_with round vertices records =
       records = records;
     })
 
-abbrev K-vertices : List Vertex
-K-vertices =
+abbrev k_vertices : List Vertex
+k_vertices =
     vertex 32768 32768 32768 none none ∷ vertex 32832 32768 32768 none none ∷ vertex 32832 32832 32768 none none ∷ vertex 32832 32832 32832 none none ∷ []
 
 -- "refinement edge 2, marks 4, 2, 2, 1"
-abbrev K-record : ℕ → Record
-K-record first = entry K-corners 2 (4 ∷ 2 ∷ 2 ∷ 1 ∷ []) 0 0 first
+abbrev k_record : ℕ → Record
+k_record first = entry k_corners 2 (4 ∷ 2 ∷ 2 ∷ 1 ∷ []) 0 0 first
 
 -- K as build stores it, but of this round.
-abbrev pub K-of : ℕ → List ℕ
-K-of round = mesh_with round K-vertices (K-record none ∷ [])
+abbrev pub k_of : ℕ → List ℕ
+k_of round = mesh_with round k_vertices (k_record none ∷ [])
 
 -- K as build stores it: "The round 0."
 abbrev pub K : List ℕ
-K = K-of 0
+K = k_of 0
 
 -- K with record 0 cut: "vertex 4 is (32,32,32) with parents 0, 3. Record 1: corners 0 1 2 4, edge 1, marks 3, 1, 0, 1. Record 2: 4 1 2 3,
 -- edge 4, marks 4, 5, 4, 3."
-abbrev K-cut-vertices : List Vertex
-K-cut-vertices = K-vertices ++ vertex 32800 32800 32800 0 3 ∷ []
+abbrev k_cut_vertices : List Vertex
+k_cut_vertices = k_vertices ++ vertex 32800 32800 32800 0 3 ∷ []
 
-abbrev K-record-1 : ℕ → Record
-K-record-1 first = entry (0 ∷ 1 ∷ 2 ∷ 4 ∷ []) 1 (3 ∷ 1 ∷ 0 ∷ 1 ∷ []) 0 1 first
+abbrev k_record_1 : ℕ → Record
+k_record_1 first = entry (0 ∷ 1 ∷ 2 ∷ 4 ∷ []) 1 (3 ∷ 1 ∷ 0 ∷ 1 ∷ []) 0 1 first
 
-abbrev K-record-2 : ℕ → Record
-K-record-2 first = entry (4 ∷ 1 ∷ 2 ∷ 3 ∷ []) 4 (4 ∷ 5 ∷ 4 ∷ 3 ∷ []) 0 1 first
+abbrev k_record_2 : ℕ → Record
+k_record_2 first = entry (4 ∷ 1 ∷ 2 ∷ 3 ∷ []) 4 (4 ∷ 5 ∷ 4 ∷ 3 ∷ []) 0 1 first
 
-abbrev pub K-cut : List ℕ
-K-cut = mesh_with 1 K-cut-vertices (K-record 1 ∷ K-record-1 none ∷ K-record-2 none ∷ [])
+abbrev pub k_cut : List ℕ
+k_cut = mesh_with 1 k_cut_vertices (k_record 1 ∷ k_record_1 none ∷ k_record_2 none ∷ [])
 
 -- And with 1 and 2 cut then.
-abbrev pub K-four : List ℕ
-K-four =
+abbrev pub k_four : List ℕ
+k_four =
     mesh_with 2
-    (K-cut-vertices ++ vertex 32800 32800 32768 0 2 ∷ vertex 32832 32800 32800 1 3 ∷ [])
-    (K-record 1
-    ∷ K-record-1 3
-    ∷ K-record-2 5
+    (k_cut_vertices ++ vertex 32800 32800 32768 0 2 ∷ vertex 32832 32800 32800 1 3 ∷ [])
+    (k_record 1
+    ∷ k_record_1 3
+    ∷ k_record_2 5
     ∷ entry (0 ∷ 1 ∷ 5 ∷ 4 ∷ []) 0 (4 ∷ 2 ∷ 0 ∷ 0 ∷ []) 1 2 none
     ∷ entry (5 ∷ 1 ∷ 2 ∷ 4 ∷ []) 3 (3 ∷ 5 ∷ 4 ∷ 3 ∷ []) 1 2 none
     ∷ entry (4 ∷ 1 ∷ 2 ∷ 6 ∷ []) 3 (3 ∷ 1 ∷ 0 ∷ 3 ∷ []) 1 2 none
