@@ -1,6 +1,6 @@
 -- What a service lends to the rules: lists of these lengths, which have room for a mesh with this header.
-use Rattle.std.specs.Prelude.{◌≡◌, false, List, ℕ, ◌*◌, ◌≤◌, ◌<◌, length, replicate}
-use Rattle.std.proofs.Common.{sym, ap, arith}
+use Rattle.std.specs.Prelude.{◌≡◌, Bool, false, ◌||◌, List, ℕ, ◌*◌, ◌≤◌, ◌<◌, length, replicate}
+use Rattle.std.proofs.Common.{sym, ap, ◌∙◌, arith}
 use Rattle.std.proofs.lemmas.List.{length-replicate}
 use Rattle.laws.specs.Links.{greatest, short, not_short, Empty}
 use Rattle.stored.specs.declared.Header.{Header}
@@ -16,6 +16,10 @@ pub record LinksFit (keys places n : ℕ) : Type 0 where
 -- Such lists are not too short.
 pub fit_not_short : (heads nexts : List ℕ) (keys places n : ℕ) → length heads ≡ keys → length nexts ≡ places → LinksFit keys places n → short heads nexts n ≡ false
 fit_not_short heads nexts keys places n h t f = not_short heads nexts n (record { keys = rw h f.some; places = rw t f.enough; fits = f.fits })
+
+-- Where what is lent is not too short, what is found is the rule alone.
+pub where_lent : {short rule found : Bool} → found ≡ (short || rule) → short ≡ false → rule ≡ found
+where_lent {rule = rule} e s = sym (e ∙ ap (λ (b : Bool). b || rule) s)
 
 -- Heads that were just made are empty.
 pub just_made : (n : ℕ) → Empty (replicate n 0)

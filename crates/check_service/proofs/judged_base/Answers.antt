@@ -1,12 +1,11 @@
 -- `check_service::judged_base`: each way out is the first rule broken, at what the calls return; what is lent has room, so each rule is what it is.
 -- Assumes nothing.
-use mathlib.Core.Path.{◌≡◌, refl, sym, ◌∙◌, ap}
-use mathlib.Core.Bool.{Bool, ◌||◌}
+use mathlib.Core.Path.{refl, sym, ◌∙◌}
 use borrow.Author.Tests.{le-ltb}
 use Rattle.laws.specs.Order.{first_broken}
 use Rattle.mesh_tables.specs.Tables.{tables}
 use Rattle.check_refusals.specs.Refusals.{bad_vertices, bad_base_faces, unused_vertices, hanging_vertices}
-use Rattle.check_refusals.specs.Lent.{fit_not_short}
+use Rattle.check_refusals.specs.Lent.{fit_not_short, where_lent}
 use Rattle.check_pieces.specs.Pieces.{pieces_none, pieces_some}
 use Rattle.check_service.specs.Order.{base_number}
 use Rattle.check_service.proofs.judged_base.Goals as goal
@@ -14,17 +13,13 @@ use Rattle.check_service.proofs.judged_base.Goals as goal
 pub returns-then-bad_vertices : goal.returns-then-bad_vertices
 unfolding base_number first_broken
 returns-then-bad_vertices c =
-    let is_4 : let a = c.args in bad_vertices (tables a.h a.l a.base.now a.grown.now) ≡ c.bad_vertices.result = let a = c.args in
-    let rule = bad_vertices (tables a.h a.l a.base.now a.grown.now) in
-    sym (c.bad_vertices.ensures c.requires.empty ∙ ap (λ (b : Bool). b || rule) (fit_not_short a.heads.now a.links.now _ _ _ refl refl c.requires.lent_to_base.vertices)) in
+    let is_4 = where_lent (c.bad_vertices.ensures c.requires.empty) (fit_not_short _ _ _ _ _ refl refl c.requires.lent_to_base.vertices) in
     rw (is_4 ∙ c.if-bad_vertices.true)
 
 pub returns-then-found-ne0 : goal.returns-then-found-ne0
 unfolding base_number first_broken
 returns-then-found-ne0 c =
-    let is_4 : let a = c.args in bad_vertices (tables a.h a.l a.base.now a.grown.now) ≡ c.bad_vertices.result = let a = c.args in
-    let rule = bad_vertices (tables a.h a.l a.base.now a.grown.now) in
-    sym (c.bad_vertices.ensures c.requires.empty ∙ ap (λ (b : Bool). b || rule) (fit_not_short a.heads.now a.links.now _ _ _ refl refl c.requires.lent_to_base.vertices)) in
+    let is_4 = where_lent (c.bad_vertices.ensures c.requires.empty) (fit_not_short _ _ _ _ _ refl refl c.requires.lent_to_base.vertices) in
     let a = c.args in
     let m = tables a.h a.l a.base.now a.grown.now in
     rw (is_4 ∙ c.if-bad_vertices.false) (pieces_some m c.pieces_number-found.ensures c.if-found-ne0.true _)
@@ -32,9 +27,7 @@ returns-then-found-ne0 c =
 pub returns-then-bad_base_marks : goal.returns-then-bad_base_marks
 unfolding base_number first_broken
 returns-then-bad_base_marks c =
-    let is_4 : let a = c.args in bad_vertices (tables a.h a.l a.base.now a.grown.now) ≡ c.bad_vertices.result = let a = c.args in
-    let rule = bad_vertices (tables a.h a.l a.base.now a.grown.now) in
-    sym (c.bad_vertices.ensures c.requires.empty ∙ ap (λ (b : Bool). b || rule) (fit_not_short a.heads.now a.links.now _ _ _ refl refl c.requires.lent_to_base.vertices)) in
+    let is_4 = where_lent (c.bad_vertices.ensures c.requires.empty) (fit_not_short _ _ _ _ _ refl refl c.requires.lent_to_base.vertices) in
     let a = c.args in
     let m = tables a.h a.l a.base.now a.grown.now in
     let (bad, left) = pieces_none m c.pieces_number-found.ensures c.if-found-ne0.false in
@@ -43,13 +36,8 @@ returns-then-bad_base_marks c =
 pub returns-then-bad_base_faces : goal.returns-then-bad_base_faces
 unfolding base_number first_broken
 returns-then-bad_base_faces c =
-    let is_4 : let a = c.args in bad_vertices (tables a.h a.l a.base.now a.grown.now) ≡ c.bad_vertices.result = let a = c.args in
-    let rule = bad_vertices (tables a.h a.l a.base.now a.grown.now) in
-    sym (c.bad_vertices.ensures c.requires.empty ∙ ap (λ (b : Bool). b || rule) (fit_not_short a.heads.now a.links.now _ _ _ refl refl c.requires.lent_to_base.vertices)) in
-    let is_7 : let a = c.args in bad_base_faces (tables a.h a.l a.base.now a.grown.now) ≡ c.bad_base_faces.result = let a = c.args in
-    let rule = bad_base_faces (tables a.h a.l a.base.now a.grown.now) in
-    let before = c.bad_vertices in
-    sym (c.bad_base_faces.ensures c.requires.empty_2 ∙ ap (λ (b : Bool). b || rule) (fit_not_short a.face_heads.now before.new.nexts _ _ _ refl before.auto.nexts c.requires.lent_to_base.faces)) in
+    let is_4 = where_lent (c.bad_vertices.ensures c.requires.empty) (fit_not_short _ _ _ _ _ refl refl c.requires.lent_to_base.vertices) in
+    let is_7 = where_lent (c.bad_base_faces.ensures c.requires.empty_2) (fit_not_short _ _ _ _ _ refl c.bad_vertices.auto.nexts c.requires.lent_to_base.faces) in
     let a = c.args in
     let m = tables a.h a.l a.base.now a.grown.now in
     let (bad, left) = pieces_none m c.pieces_number-found.ensures c.if-found-ne0.false in
@@ -58,16 +46,9 @@ returns-then-bad_base_faces c =
 pub returns-then-unused_vertices : goal.returns-then-unused_vertices
 unfolding base_number first_broken
 returns-then-unused_vertices c =
-    let is_4 : let a = c.args in bad_vertices (tables a.h a.l a.base.now a.grown.now) ≡ c.bad_vertices.result = let a = c.args in
-    let rule = bad_vertices (tables a.h a.l a.base.now a.grown.now) in
-    sym (c.bad_vertices.ensures c.requires.empty ∙ ap (λ (b : Bool). b || rule) (fit_not_short a.heads.now a.links.now _ _ _ refl refl c.requires.lent_to_base.vertices)) in
-    let is_7 : let a = c.args in bad_base_faces (tables a.h a.l a.base.now a.grown.now) ≡ c.bad_base_faces.result = let a = c.args in
-    let rule = bad_base_faces (tables a.h a.l a.base.now a.grown.now) in
-    let before = c.bad_vertices in
-    sym (c.bad_base_faces.ensures c.requires.empty_2 ∙ ap (λ (b : Bool). b || rule) (fit_not_short a.face_heads.now before.new.nexts _ _ _ refl before.auto.nexts c.requires.lent_to_base.faces)) in
-    let is_8 : let a = c.args in unused_vertices (tables a.h a.l a.base.now a.grown.now) ≡ c.unused_vertices.result = let a = c.args in
-    let rule = unused_vertices (tables a.h a.l a.base.now a.grown.now) in
-    sym (c.unused_vertices.ensures ∙ ap (λ (b : Bool). b || rule) (le-ltb _ _ c.requires.lent_to_base.each_base_vertex)) in
+    let is_4 = where_lent (c.bad_vertices.ensures c.requires.empty) (fit_not_short _ _ _ _ _ refl refl c.requires.lent_to_base.vertices) in
+    let is_7 = where_lent (c.bad_base_faces.ensures c.requires.empty_2) (fit_not_short _ _ _ _ _ refl c.bad_vertices.auto.nexts c.requires.lent_to_base.faces) in
+    let is_8 = where_lent c.unused_vertices.ensures (le-ltb _ _ c.requires.lent_to_base.each_base_vertex) in
     let a = c.args in
     let m = tables a.h a.l a.base.now a.grown.now in
     let (bad, left) = pieces_none m c.pieces_number-found.ensures c.if-found-ne0.false in
@@ -83,21 +64,10 @@ returns-then-unused_vertices c =
 pub returns-then-hanging_vertices : goal.returns-then-hanging_vertices
 unfolding base_number first_broken
 returns-then-hanging_vertices c =
-    let is_4 : let a = c.args in bad_vertices (tables a.h a.l a.base.now a.grown.now) ≡ c.bad_vertices.result = let a = c.args in
-    let rule = bad_vertices (tables a.h a.l a.base.now a.grown.now) in
-    sym (c.bad_vertices.ensures c.requires.empty ∙ ap (λ (b : Bool). b || rule) (fit_not_short a.heads.now a.links.now _ _ _ refl refl c.requires.lent_to_base.vertices)) in
-    let is_7 : let a = c.args in bad_base_faces (tables a.h a.l a.base.now a.grown.now) ≡ c.bad_base_faces.result = let a = c.args in
-    let rule = bad_base_faces (tables a.h a.l a.base.now a.grown.now) in
-    let before = c.bad_vertices in
-    sym (c.bad_base_faces.ensures c.requires.empty_2 ∙ ap (λ (b : Bool). b || rule) (fit_not_short a.face_heads.now before.new.nexts _ _ _ refl before.auto.nexts c.requires.lent_to_base.faces)) in
-    let is_8 : let a = c.args in unused_vertices (tables a.h a.l a.base.now a.grown.now) ≡ c.unused_vertices.result = let a = c.args in
-    let rule = unused_vertices (tables a.h a.l a.base.now a.grown.now) in
-    sym (c.unused_vertices.ensures ∙ ap (λ (b : Bool). b || rule) (le-ltb _ _ c.requires.lent_to_base.each_base_vertex)) in
-    let is_23 : let a = c.args in hanging_vertices (tables a.h a.l a.base.now a.grown.now) ≡ c.hanging_vertices.result = let a = c.args in
-    let rule = hanging_vertices (tables a.h a.l a.base.now a.grown.now) in
-    let before = c.bad_vertices in
-    let faces = c.bad_base_faces in
-    sym (c.hanging_vertices.ensures ∙ ap (λ (b : Bool). b || rule) (fit_not_short before.new.heads faces.new.nexts _ _ _ before.auto.heads (faces.auto.nexts ∙ before.auto.nexts) c.requires.lent_to_base.base_vertices_lem)) in
+    let is_4 = where_lent (c.bad_vertices.ensures c.requires.empty) (fit_not_short _ _ _ _ _ refl refl c.requires.lent_to_base.vertices) in
+    let is_7 = where_lent (c.bad_base_faces.ensures c.requires.empty_2) (fit_not_short _ _ _ _ _ refl c.bad_vertices.auto.nexts c.requires.lent_to_base.faces) in
+    let is_8 = where_lent c.unused_vertices.ensures (le-ltb _ _ c.requires.lent_to_base.each_base_vertex) in
+    let is_23 = where_lent c.hanging_vertices.ensures (fit_not_short _ _ _ _ _ c.bad_vertices.auto.heads (c.bad_base_faces.auto.nexts ∙ c.bad_vertices.auto.nexts) c.requires.lent_to_base.base_vertices_lem) in
     let a = c.args in
     let m = tables a.h a.l a.base.now a.grown.now in
     let (bad, left) = pieces_none m c.pieces_number-found.ensures c.if-found-ne0.false in
@@ -114,21 +84,10 @@ returns-then-hanging_vertices c =
 pub returns : goal.returns
 unfolding base_number first_broken
 returns c =
-    let is_4 : let a = c.args in bad_vertices (tables a.h a.l a.base.now a.grown.now) ≡ c.bad_vertices.result = let a = c.args in
-    let rule = bad_vertices (tables a.h a.l a.base.now a.grown.now) in
-    sym (c.bad_vertices.ensures c.requires.empty ∙ ap (λ (b : Bool). b || rule) (fit_not_short a.heads.now a.links.now _ _ _ refl refl c.requires.lent_to_base.vertices)) in
-    let is_7 : let a = c.args in bad_base_faces (tables a.h a.l a.base.now a.grown.now) ≡ c.bad_base_faces.result = let a = c.args in
-    let rule = bad_base_faces (tables a.h a.l a.base.now a.grown.now) in
-    let before = c.bad_vertices in
-    sym (c.bad_base_faces.ensures c.requires.empty_2 ∙ ap (λ (b : Bool). b || rule) (fit_not_short a.face_heads.now before.new.nexts _ _ _ refl before.auto.nexts c.requires.lent_to_base.faces)) in
-    let is_8 : let a = c.args in unused_vertices (tables a.h a.l a.base.now a.grown.now) ≡ c.unused_vertices.result = let a = c.args in
-    let rule = unused_vertices (tables a.h a.l a.base.now a.grown.now) in
-    sym (c.unused_vertices.ensures ∙ ap (λ (b : Bool). b || rule) (le-ltb _ _ c.requires.lent_to_base.each_base_vertex)) in
-    let is_23 : let a = c.args in hanging_vertices (tables a.h a.l a.base.now a.grown.now) ≡ c.hanging_vertices.result = let a = c.args in
-    let rule = hanging_vertices (tables a.h a.l a.base.now a.grown.now) in
-    let before = c.bad_vertices in
-    let faces = c.bad_base_faces in
-    sym (c.hanging_vertices.ensures ∙ ap (λ (b : Bool). b || rule) (fit_not_short before.new.heads faces.new.nexts _ _ _ before.auto.heads (faces.auto.nexts ∙ before.auto.nexts) c.requires.lent_to_base.base_vertices_lem)) in
+    let is_4 = where_lent (c.bad_vertices.ensures c.requires.empty) (fit_not_short _ _ _ _ _ refl refl c.requires.lent_to_base.vertices) in
+    let is_7 = where_lent (c.bad_base_faces.ensures c.requires.empty_2) (fit_not_short _ _ _ _ _ refl c.bad_vertices.auto.nexts c.requires.lent_to_base.faces) in
+    let is_8 = where_lent c.unused_vertices.ensures (le-ltb _ _ c.requires.lent_to_base.each_base_vertex) in
+    let is_23 = where_lent c.hanging_vertices.ensures (fit_not_short _ _ _ _ _ c.bad_vertices.auto.heads (c.bad_base_faces.auto.nexts ∙ c.bad_vertices.auto.nexts) c.requires.lent_to_base.base_vertices_lem) in
     let a = c.args in
     let m = tables a.h a.l a.base.now a.grown.now in
     let (bad, left) = pieces_none m c.pieces_number-found.ensures c.if-found-ne0.false in
