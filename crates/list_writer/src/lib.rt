@@ -1,5 +1,5 @@
-// A writer: it holds a slice of the line buffer, and the place of the next byte. Each function that takes or makes one takes it apart and
-// calls a covered function with the slice and the place.
+// A writer: it holds a slice of the line buffer, and the place of the next byte. Each function that takes one calls a function over the slice
+// and the place.
 #![tactic(auto)]
 
 ghost use Rattle.std.specs.Prelude.{◌≡◌, ◌++◌};
@@ -37,7 +37,7 @@ fn put_number<'a>(w: Writer<'a>, n: u64) -> usize
     list_text::number_at(&mut *w.buffer, at, n)
 }
 
-// A number behind its word. Its contract says nothing of a writer, so whoever calls it needs no walk by hand.
+// A number behind its word. Its contract says nothing of a writer.
 pub fn figure(buffer: &mut [u8], at: usize, name: &[u8], n: u64) -> usize
     ensures { line buffer.new result ≡ put (name.now ++ decimal n) (line buffer.old at) }
 {
