@@ -1,6 +1,6 @@
 -- The first-ranked edge is found by going through the edges in the order of their codes, with each edge's rank taken once.
 -- Assumes nothing.
-use Rattle.std.specs.Prelude.{◌≡◌, cond, ◌&&◌, List, [], ◌∷◌, ltb, ℤ}
+use Rattle.std.specs.Prelude.{◌≡◌, cond, ◌&&◌, List, [], ◌∷◌, ltb, ℤ, get_or}
 use Rattle.std.proofs.Math.Path.{refl, sym}
 use Rattle.std.proofs.Common.{ap, ◌∙◌, subst, true≢false, le_refl, eq-or-lt_of_le, le_of_suc-le-suc, arith}
 use Rattle.std.proofs.Math.Logic.{⊎_elim}
@@ -29,6 +29,10 @@ edge_for code u v a b =
       code = code;
       rank = record { length = squared_length (point_of a) (point_of b); lower = (between u v).lower; higher = (between u v).higher };
     }
+
+-- Of the six edges the one with code e.
+abbrev pub edge_at : List Edge → ℕ → Edge
+edge_at edges e = get_or edges e (record { code = 0; rank = record { length = 0; lower = 0; higher = 0 } })
 
 -- Edge e of a piece.
 abbrev pub edge_of : List ℤ → Piece → ℕ → Edge

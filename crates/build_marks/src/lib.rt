@@ -5,7 +5,7 @@ ghost use Rattle.std.specs.Prelude.{◌≡◌, get_or, pos};
 ghost use Rattle.grid.specs.Places.{point_of};
 ghost use Rattle.grid_volume.specs.Volume.{signed_of};
 ghost use Rattle.build_marks.specs.Marking.{place_for, plain_place, plain_vertex, plain_piece, last_exchanged, righted_piece, marked_piece, plain_record};
-ghost use Rattle.build_marks.specs.Choosing.{edge_for, first_of, marked_by};
+ghost use Rattle.build_marks.specs.Choosing.{edge_for, edge_at, first_of, marked_by};
 
 use grid::Place;
 use grid_lengths::Ranked;
@@ -18,20 +18,17 @@ const SHIFT: i32 = grid::SHIFT as i32;
 fn place_for(x: i16) -> u16
     ensures { result ≡ place_for x }
 {
-    ((x as i32) + SHIFT) as u16
+    (x as i32 + SHIFT) as u16
 }
 
 // The place of the coordinate at an index; past the end a coordinate is 0.
 fn place_at(coordinates: &[i16], at: usize) -> u16
     ensures { result ≡ place_for (get_or coordinates.now at (pos 0)) }
 {
-    if at < coordinates.len() {
-        place_for(coordinates[at])
-    } else {
-        grid::SHIFT as u16
-    }
+    place_for(coordinates.get(at).copied().unwrap_or(0))
 }
 
+#[tactic(auto, unfolding(crate::specs::Marking::plain_place))]
 fn plain_place(coordinates: &[i16], v: u32) -> Place
     ensures { result ≡ plain_place coordinates.now v }
 {
@@ -43,12 +40,12 @@ fn plain_place(coordinates: &[i16], v: u32) -> Place
     }
 }
 
+#[tactic(auto, unfolding(crate::specs::Marking::plain_vertex))]
 pub fn plain_vertex(coordinates: &[i16], v: u32) -> Vertex
     ensures { result ≡ plain_vertex coordinates.now v }
 {
-    let place = plain_place(coordinates, v);
     Vertex {
-        place: place,
+        place: plain_place(coordinates, v),
         p: stored::NONE,
         q: stored::NONE,
     }
@@ -57,27 +54,23 @@ pub fn plain_vertex(coordinates: &[i16], v: u32) -> Vertex
 fn corner_at(corners: &[u16], at: usize) -> u32
     ensures { result ≡ get_or corners.now at 0 }
 {
-    if at < corners.len() {
-        corners[at] as u32
-    } else {
-        0
-    }
+    corners.get(at).map_or(0, |corner| u32::from(*corner))
 }
 
+#[tactic(auto, unfolding(crate::specs::Marking::plain_piece))]
 pub fn plain_piece(corners: &[u16], n: u32) -> Piece
     ensures { result ≡ plain_piece corners.now n }
 {
     let at = 4 * (n as usize);
-    let four = [
-        corner_at(corners, at),
-        corner_at(corners, at + 1),
-        corner_at(corners, at + 2),
-        corner_at(corners, at + 3),
-    ];
     Piece {
-        corners: four,
+        corners: [
+            corner_at(corners, at),
+            corner_at(corners, at + 1),
+            corner_at(corners, at + 2),
+            corner_at(corners, at + 3),
+        ],
         edge: 0,
-        marks: [0u8, 0u8, 0u8, 0u8],
+        marks: [0; 4],
         flag: 0,
         generation: 0,
         material: 0,
@@ -85,6 +78,8 @@ pub fn plain_piece(corners: &[u16], n: u32) -> Piece
 }
 
 // The signed determinant of a piece with these corners.
+// Kept: `mesh_tables::signed_between` is alike but for where it reads the places, in a stored mesh; what the two share is `grid_volume::signed`.
+#[tactic(auto, unfolding(grid_volume::specs::Volume::differences_of))]
 pub fn signed_of(coordinates: &[i16], corners: [u32; 4]) -> i64
     ensures { result ≡ signed_of (λ k. point_of (plain_place coordinates.now (get_or corners k 0))) }
 {
@@ -95,30 +90,26 @@ pub fn signed_of(coordinates: &[i16], corners: [u32; 4]) -> i64
     grid_volume::signed(a, b, c, d)
 }
 
+#[tactic(auto, unfolding(crate::specs::Marking::last_exchanged))]
 fn last_exchanged(p: Piece) -> Piece
     ensures { result ≡ last_exchanged p }
 {
-    let corners = p.corners;
-    let four = [corners[0], corners[1], corners[3], corners[2]];
-    let marks = p.marks;
+    let [s, t, u, v] = p.corners;
     Piece {
-        corners: four,
-        edge: p.edge,
-        marks: marks,
-        flag: p.flag,
-        generation: p.generation,
-        material: p.material,
+        corners: [s, t, v, u],
+        ..p
     }
 }
 
+#[tactic(auto, unfolding(crate::specs::Marking::righted_piece, grid_volume::specs::Volume::left_handed))]
 fn righted_piece(coordinates: &[i16], p: Piece) -> Piece
     ensures { result ≡ righted_piece coordinates.now p }
 {
-    let corners = p.corners;
-    if grid_volume::is_negative(signed_of(coordinates, corners)) {
-        return last_exchanged(p);
+    if grid_volume::is_negative(signed_of(coordinates, p.corners)) {
+        last_exchanged(p)
+    } else {
+        p
     }
-    p
 }
 
 // An edge: its code, and how it is ranked.
@@ -129,75 +120,63 @@ struct Edge {
 }
 
 // The edge between vertices u and v, which stand at a and b.
+#[tactic(auto, unfolding(crate::specs::Choosing::edge_for))]
 fn edge_between(code: u8, u: u32, v: u32, a: Place, b: Place) -> Edge
     ensures { result ≡ edge_for code u v a b }
 {
-    let length = grid_lengths::squared_length(a, b);
     let ends = piece::ends_between(u, v);
-    let rank = Ranked {
-        length: length,
-        lower: ends.lower,
-        higher: ends.higher,
-    };
     Edge {
-        code: code,
-        rank: rank,
+        code,
+        rank: Ranked {
+            length: grid_lengths::squared_length(a, b),
+            lower: ends.lower,
+            higher: ends.higher,
+        },
     }
 }
 
 // Of two edges the one that ranks first, and the former where neither ranks before the other.
+#[tactic(auto, unfolding(crate::specs::Choosing::first_of))]
 fn first_of(a: Edge, b: Edge) -> Edge
     ensures { result ≡ first_of a b }
 {
-    let former = a.rank;
-    let latter = b.rank;
-    if grid_lengths::ranks_before(latter, former) {
-        return b;
+    if grid_lengths::ranks_before(b.rank, a.rank) {
+        b
+    } else {
+        a
     }
-    a
 }
 
 fn first_of_face(a: Edge, b: Edge, c: Edge) -> u8
     ensures { result ≡ (first_of (first_of a b) c).code }
 {
-    let first = first_of(first_of(a, b), c);
-    first.code
+    first_of(first_of(a, b), c).code
 }
 
-fn first_of_piece(a: Edge, b: Edge, c: Edge, d: Edge, e: Edge, f: Edge) -> u8
-    ensures { result ≡ (first_of (first_of (first_of (first_of (first_of a b) c) d) e) f).code }
+fn first_of_piece(edges: [Edge; 6]) -> u8
+    ensures { result ≡ (first_of (first_of (first_of (first_of (first_of (edge_at edges 0) (edge_at edges 1)) (edge_at edges 2)) (edge_at edges 3)) (edge_at edges 4)) (edge_at edges 5)).code }
 {
-    let first = first_of(first_of(first_of(first_of(first_of(a, b), c), d), e), f);
-    first.code
+    let [a, b, c, d, e, f] = edges;
+    first_of(first_of(first_of(first_of(first_of(a, b), c), d), e), f).code
 }
 
-// The piece with these corners, this material and these edges: a face has the three edges without its slot.
-fn marked_by(
-    corners: [u32; 4],
-    material: u8,
-    a: Edge,
-    b: Edge,
-    c: Edge,
-    d: Edge,
-    e: Edge,
-    f: Edge,
-) -> Piece
-    ensures { result ≡ marked_by corners material a b c d e f }
+// The piece, marked, with these edges: a face has the three edges without its slot.
+#[tactic(auto, unfolding(crate::specs::Choosing::marked_by))]
+fn marked_by(p: Piece, edges: [Edge; 6]) -> Piece
+    ensures { result ≡ marked_by p.corners p.material (edge_at edges 0) (edge_at edges 1) (edge_at edges 2) (edge_at edges 3) (edge_at edges 4) (edge_at edges 5) }
 {
-    let edge = first_of_piece(a, b, c, d, e, f);
-    let marks = [
-        first_of_face(d, e, f),
-        first_of_face(b, c, f),
-        first_of_face(a, c, e),
-        first_of_face(a, b, d),
-    ];
+    let [a, b, c, d, e, f] = edges;
     Piece {
-        corners: corners,
-        edge: edge,
-        marks: marks,
+        edge: first_of_piece(edges),
+        marks: [
+            first_of_face(d, e, f),
+            first_of_face(b, c, f),
+            first_of_face(a, c, e),
+            first_of_face(a, b, d),
+        ],
         flag: 0,
         generation: 0,
-        material: material,
+        ..p
     }
 }
 
@@ -205,36 +184,31 @@ fn marked_by(
 fn marked_piece(coordinates: &[i16], p: Piece) -> Piece
     ensures { result ≡ marked_piece coordinates.now p }
 {
-    let corners = p.corners;
-    let s = corners[0];
-    let t = corners[1];
-    let u = corners[2];
-    let v = corners[3];
+    let [s, t, u, v] = p.corners;
     let a = plain_place(coordinates, s);
     let b = plain_place(coordinates, t);
     let c = plain_place(coordinates, u);
     let d = plain_place(coordinates, v);
     marked_by(
-        corners,
-        p.material,
-        edge_between(0, s, t, a, b),
-        edge_between(1, s, u, a, c),
-        edge_between(2, s, v, a, d),
-        edge_between(3, t, u, b, c),
-        edge_between(4, t, v, b, d),
-        edge_between(5, u, v, c, d),
+        p,
+        [
+            edge_between(0, s, t, a, b),
+            edge_between(1, s, u, a, c),
+            edge_between(2, s, v, a, d),
+            edge_between(3, t, u, b, c),
+            edge_between(4, t, v, b, d),
+            edge_between(5, u, v, c, d),
+        ],
     )
 }
 
+#[tactic(auto, unfolding(crate::specs::Marking::plain_record))]
 pub fn plain_record(coordinates: &[i16], corners: &[u16], n: u32) -> Record
     ensures { result ≡ plain_record coordinates.now corners.now n }
 {
-    let piece = marked_piece(
-        coordinates,
-        righted_piece(coordinates, plain_piece(corners, n)),
-    );
+    let piece = righted_piece(coordinates, plain_piece(corners, n));
     Record {
-        piece: piece,
+        piece: marked_piece(coordinates, piece),
         first_child: stored::NONE,
     }
 }

@@ -5,48 +5,44 @@ ghost use Rattle.std.specs.Prelude.{◌≡◌, false, length, replicate};
 ghost use Rattle.laws.specs.Below.{any_below};
 ghost use Rattle.laws.specs.Links.{Empty};
 ghost use Rattle.stored.specs.Layout.{version1, limits, assembled};
-ghost use Rattle.mesh_tables.specs.Tables.{tables};
+ghost use Rattle.mesh_tables.specs.Tables.{tables_read, tables};
 ghost use Rattle.check_refusals.specs.Refusals.{wrong_counts, bad_piece};
+ghost use Rattle.check_refusals.specs.Outcomes.{outcome_number};
 ghost use Rattle.check_refusals.specs.Bounded.{Bounded};
 ghost use Rattle.check_refusals.specs.Lent.{LentToBase};
 ghost use Rattle.build_marks.specs.Marking.{plain_vertex, plain_piece};
 ghost use Rattle.build_service.specs.Build.{not_whole, plain_header, plain_bytes, bad_given_pieces, BuildOutcomeIs};
 ghost use Rattle.build_service.specs.Storing.{vertices_put, records_put, Ready, judged_number, later_number, later_bytes};
 
-use stored::{Header, Layout, Limits};
+use chains::Links;
+use check_refusals::Refusal;
+use stored::{Header, Limits};
+use stored_entries::Mesh;
 
 // Refusal 21.
+#[tactic(auto, unfolding(crate::specs::Build::not_whole))]
 fn not_whole(coordinates: &[i16], corners: &[u16]) -> bool
     ensures { result ≡ not_whole coordinates.now corners.now }
 {
-    if coordinates.len() % 3 != 0 {
-        return true;
-    }
-    corners.len() % 4 != 0
+    coordinates.len() % 3 != 0 || corners.len() % 4 != 0
 }
 
 // Refusal 3, on counts that may be too great for the header.
+#[tactic(auto, unfolding(check_refusals::specs::Refusals::wrong_counts, crate::specs::Build::plain_header))]
 fn wrong_counts(most: Limits, coordinates: &[i16], corners: &[u16]) -> bool
     ensures { result ≡ wrong_counts most (plain_header 0 coordinates.now corners.now) }
 {
     let vertices = coordinates.len() / 3;
     let records = corners.len() / 4;
-    if (most.vertices as usize) < vertices {
-        return true;
-    }
-    if (most.records as usize) < records {
-        return true;
-    }
-    if (most.base_records as usize) < records {
-        return true;
-    }
-    if vertices < 4 {
-        return true;
-    }
-    records < 1
+    (most.vertices as usize) < vertices
+        || (most.records as usize) < records
+        || (most.base_records as usize) < records
+        || vertices < 4
+        || records < 1
 }
 
 // The counts fit, since they are not wrong.
+#[tactic(auto, unfolding(crate::specs::Build::plain_header))]
 fn plain_header(job: u32, coordinates: &[i16], corners: &[u16]) -> Header
     requires { wrong_counts limits (plain_header job coordinates.now corners.now) ≡ false }
     ensures { result ≡ plain_header job coordinates.now corners.now }
@@ -54,12 +50,12 @@ fn plain_header(job: u32, coordinates: &[i16], corners: &[u16]) -> Header
     let vertices = (coordinates.len() / 3) as u32;
     let records = (corners.len() / 4) as u32;
     Header {
-        job: job,
+        job,
         round: 0,
         base_vertices: vertices,
-        vertices: vertices,
+        vertices,
         base_records: records,
-        records: records,
+        records,
     }
 }
 
@@ -68,8 +64,7 @@ fn put_vertices(base: &mut [u8], grown: &mut [u8], vertices: u32, records: u32, 
     ensures grown_unchanged { grown.new ≡ grown.old }
 {
     let l = stored::working_layout(stored::version_1(), vertices, records);
-    let mut i: u32 = 0;
-    while i < vertices {
+    for i in 0..vertices {
         stored_written::put_vertex(
             l,
             base,
@@ -77,7 +72,6 @@ fn put_vertices(base: &mut [u8], grown: &mut [u8], vertices: u32, records: u32, 
             i as usize,
             build_marks::plain_vertex(coordinates, i),
         );
-        i += 1;
     }
 }
 
@@ -93,8 +87,7 @@ fn put_records(
     ensures grown_after { grown.new ≡ records_put grown.old coordinates.now corners.now records }
 {
     let l = stored::working_layout(stored::version_1(), vertices, records);
-    let mut i: u32 = 0;
-    while i < records {
+    for i in 0..records {
         stored_written::put_record(
             l,
             base,
@@ -102,74 +95,84 @@ fn put_records(
             i as usize,
             build_marks::plain_record(coordinates, corners, i),
         );
-        i += 1;
     }
 }
 
+#[tactic(auto, unfolding(check_refusals::specs::Refusals::bad_piece, build_marks::specs::Marking::plain_piece, build_marks::specs::Marking::plain_vertex, mesh_tables::specs::Tables::sixfold_at, grid_volume::specs::Volume::sixfold_of))]
 fn bad_given(coordinates: &[i16], corners: &[u16], count: u32, n: u32) -> bool
     ensures { result ≡ bad_piece count (plain_vertex coordinates.now) (plain_piece corners.now n) }
 {
     let p = build_marks::plain_piece(corners, n);
-    let four = p.corners;
-    if check_pieces::bad_corners(count, four) {
-        return true;
-    }
-    grid_volume::is_flat(build_marks::signed_of(coordinates, four))
+    check_pieces::bad_corners(count, p.corners)
+        || grid_volume::is_flat(build_marks::signed_of(coordinates, p.corners))
 }
 
 // Refusal 5, of so many pieces as they are given.
 fn bad_given_pieces(coordinates: &[i16], corners: &[u16], vertices: u32, records: u32) -> bool
     ensures { result ≡ any_below records (λ n. bad_piece vertices (plain_vertex coordinates.now) (plain_piece corners.now n)) }
 {
-    let mut n: u32 = 0;
-    while n < records {
+    for n in 0..records {
         if bad_given(coordinates, corners, vertices, n) {
             return true;
         }
-        n += 1;
     }
     false
 }
 
-// Check's own rules 4, 7, 8 and 23, in its place whether 5 was found broken, and 0 where none is.
-fn judged_with<'a>(
+// Check's own rules 4, 7, 8 and 23, and between them, in its place, whether 5 was found broken.
+fn judged_with(
     bad_given: bool,
-    h: Header,
-    l: Layout,
-    base: &'a [u8],
-    grown: &'a [u8],
+    mesh: &Mesh,
     heads: &mut [u16],
     face_heads: &mut [u16],
     links: &mut [u16],
     uses: &mut [u16],
-) -> u32
-    requires lent_to_base { LentToBase h (length heads.old) (length face_heads.old) (length links.old) (length uses.old) }
-    requires empty { Empty heads.old }
-    requires empty_2 { Empty face_heads.old }
-    ensures { result ≡ judged_number bad_given (tables h l base.now grown.now) }
+) -> Result<(), Refusal>
+    requires lent_to_base { LentToBase mesh.now.header (length heads.old) (length face_heads.old) (length links.old) (length uses.old) }
+    requires heads_empty { Empty heads.old }
+    requires face_heads_empty { Empty face_heads.old }
+    ensures { outcome_number result ≡ judged_number bad_given (tables_read mesh.now) }
 {
-    if check_places::bad_vertices(h, l, base, grown, heads, links) {
-        return 4;
+    if check_places::bad_vertices(
+        mesh,
+        &mut Links {
+            heads,
+            nexts: links,
+        },
+    ) {
+        return Err(Refusal::BadVertices);
     }
     if bad_given {
-        return 5;
+        return Err(Refusal::BadBaseRecords);
     }
-    if check_faces::bad_base_faces(h, l, base, grown, face_heads, links) {
-        return 7;
+    if check_faces::bad_base_faces(
+        mesh,
+        &mut Links {
+            heads: face_heads,
+            nexts: links,
+        },
+    ) {
+        return Err(Refusal::BadBaseFaces);
     }
-    if check_uses::unused_vertices(h, l, base, grown, uses) {
-        return 8;
+    if check_uses::unused_vertices(mesh, uses) {
+        return Err(Refusal::UnusedVertices);
     }
-    if check_inside::hanging_vertices(h, l, base, grown, heads, links) {
-        return 23;
+    if check_inside::hanging_vertices(
+        mesh,
+        &mut Links {
+            heads,
+            nexts: links,
+        },
+    ) {
+        return Err(Refusal::HangingVertices);
     }
-    0
+    Ok(())
 }
 
 // The working memory of these rules is made here, and lent to them.
-fn judged<'a>(bad_given: bool, h: Header, l: Layout, base: &'a [u8], grown: &'a [u8]) -> u32
-    requires { Bounded limits h }
-    ensures { result ≡ judged_number bad_given (tables h l base.now grown.now) }
+fn judged(bad_given: bool, mesh: &Mesh) -> Result<(), Refusal>
+    requires { Bounded limits mesh.now.header }
+    ensures { outcome_number result ≡ judged_number bad_given (tables_read mesh.now) }
 {
     let mut heads = [0u16; chains::KEYS];
     let mut face_heads = [0u16; chains::FACE_KEYS];
@@ -178,10 +181,7 @@ fn judged<'a>(bad_given: bool, h: Header, l: Layout, base: &'a [u8], grown: &'a 
     let mut uses = [0u16; stored::VERTICES];
     judged_with(
         bad_given,
-        h,
-        l,
-        base,
-        grown,
+        mesh,
         &mut heads,
         &mut face_heads,
         &mut links,
@@ -190,35 +190,37 @@ fn judged<'a>(bad_given: bool, h: Header, l: Layout, base: &'a [u8], grown: &'a 
 }
 
 // Judges the tables, and stores the mesh where it is accepted and there is room.
-fn finish<'a>(
+fn finish(
     bad_given: bool,
     h: Header,
-    vertices: &'a [u8],
-    records: &'a [u8],
+    vertices: &[u8],
+    records: &[u8],
     out: &mut [u8],
-) -> u32
+) -> Result<(), Refusal>
     requires { Ready h vertices.now records.now out.old }
-    ensures value { result ≡ later_number bad_given (assembled version1 h vertices.now records.now) (length out.old) }
+    ensures number { outcome_number result ≡ later_number bad_given (assembled version1 h vertices.now records.now) (length out.old) }
     ensures out_after { out.new ≡ later_bytes bad_given (assembled version1 h vertices.now records.now) (length out.old) }
 {
     let format = stored::version_1();
-    let l = stored::working_layout(format, h.vertices, h.records);
-    let found = judged(bad_given, h, l, vertices, records);
-    if found != 0 {
-        return found;
-    }
+    let mesh = Mesh {
+        header: h,
+        layout: stored::working_layout(format, h.vertices, h.records),
+        base: vertices,
+        grown: records,
+    };
+    judged(bad_given, &mesh)?;
     if out.len() < stored_headers::mesh_length(format, h.vertices, h.records) {
-        return 20;
+        return Err(Refusal::TooShort);
     }
     stored_written::put_mesh(format, out, h, vertices, records);
-    0
+    Ok(())
 }
 
 // 5 judges the pieces as they are given. The tables are made aside, since there may be no room for them.
-fn store(job: u32, coordinates: &[i16], corners: &[u16], out: &mut [u8]) -> u32
-    requires corners_value { wrong_counts limits (plain_header job coordinates.now corners.now) ≡ false }
-    requires out_value { out.old ≡ replicate (length out.old) 0 }
-    ensures value { result ≡ later_number (bad_given_pieces coordinates.now corners.now) (plain_bytes job coordinates.now corners.now) (length out.old) }
+fn store(job: u32, coordinates: &[i16], corners: &[u16], out: &mut [u8]) -> Result<(), Refusal>
+    requires counts_fit { wrong_counts limits (plain_header job coordinates.now corners.now) ≡ false }
+    requires out_cleared { out.old ≡ replicate (length out.old) 0 }
+    ensures number { outcome_number result ≡ later_number (bad_given_pieces coordinates.now corners.now) (plain_bytes job coordinates.now corners.now) (length out.old) }
     ensures out_after { out.new ≡ later_bytes (bad_given_pieces coordinates.now corners.now) (plain_bytes job coordinates.now corners.now) (length out.old) }
 {
     let h = plain_header(job, coordinates, corners);
@@ -243,15 +245,15 @@ fn store(job: u32, coordinates: &[i16], corners: &[u16], out: &mut [u8]) -> u32
     finish(bad_given, h, &vertices, &records, out)
 }
 
-pub fn build(job: u32, coordinates: &[i16], corners: &[u16], out: &mut [u8]) -> u32
-    ensures { BuildOutcomeIs job coordinates.now corners.now (length out.old) result out.new }
+pub fn build(job: u32, coordinates: &[i16], corners: &[u16], out: &mut [u8]) -> Result<(), Refusal>
+    ensures { BuildOutcomeIs job coordinates.now corners.now (length out.old) (outcome_number result) out.new }
 {
-    slices_written::clear(out);
+    out.fill(0);
     if not_whole(coordinates, corners) {
-        return 21;
+        return Err(Refusal::NotWhole);
     }
     if wrong_counts(stored::limits_of_version_1(), coordinates, corners) {
-        return 3;
+        return Err(Refusal::WrongCounts);
     }
     store(job, coordinates, corners, out)
 }

@@ -8,182 +8,117 @@
 ghost use Rattle.std.specs.Prelude.{◌≡◌, false, ◌||◌, ◌≤◌, length};
 ghost use Rattle.laws.specs.Below.{any_below};
 ghost use Rattle.piece.specs.Same.{same_piece};
-ghost use Rattle.stored.specs.Layout.{record_in};
-ghost use Rattle.mesh_tables.specs.Tables.{tables, vertex_with, refinement_ends};
+ghost use Rattle.mesh_tables.specs.Tables.{tables_read, tables, vertex_with, refinement_ends};
 ghost use Rattle.mesh_parents.specs.Pairs.{Linked};
-ghost use Rattle.check_refusals.specs.Refusals.{
-  bad_children,
-  too_deep,
-  bad_cut,
-  bad_record,
-  bad_cuts,
-};
+ghost use Rattle.check_refusals.specs.Refusals.{bad_children, too_deep, bad_cut, bad_record, bad_cuts};
 ghost use Rattle.laws.specs.Counts.{counts_below};
 ghost use Rattle.check_children.specs.Children.{children_counted, not_child_of_one_by, bad_record_by};
 ghost use Rattle.check_children.specs.Lent.{cramped};
 ghost use Rattle.check_children.specs.Midpoints.{midpoint_counted, no_midpoint_by};
+ghost use Rattle.stored_entries.specs.Mesh.{record_read};
 
+use chains::Links;
 use piece::{Ends, Piece};
-use stored::{Header, Layout, Record};
+use stored::{Header, Record};
+use stored_entries::Mesh;
 
 // The vertex with these parents; the count of vertices where there is none.
-fn vertex_with<'a>(
-    h: Header,
-    l: Layout,
-    base: &'a [u8],
-    grown: &'a [u8],
-    heads: &'a [u16],
-    nexts: &'a [u16],
-    ends: Ends,
-) -> usize
-    requires { Linked (tables h l base.now grown.now) heads.now nexts.now }
-    ensures { result ≡ vertex_with (tables h l base.now grown.now) ends }
+fn vertex_with(mesh: &Mesh, links: &Links, ends: Ends) -> usize
+    requires { Linked (tables_read mesh.now) links.now.heads.now links.now.nexts.now }
+    ensures { result ≡ vertex_with (tables_read mesh.now) ends }
 {
-    mesh_parents::first_with(h, l, base, grown, heads, nexts, ends)
+    mesh_parents::first_with(mesh, links, ends)
 }
 
 // ---- records
 
 // Whether record c holds this piece.
-fn holds<'a>(l: Layout, base: &'a [u8], grown: &'a [u8], c: usize, p: Piece) -> bool
-    ensures { result ≡ same_piece (record_in l base.now grown.now c).piece p }
+fn holds(mesh: &Mesh, c: usize, p: Piece) -> bool
+    ensures { result ≡ same_piece (record_read mesh.now c).piece p }
 {
-    let record = stored_entries::record_in(l, base, grown, c);
-    let there = record.piece;
-    piece_same::same_piece(there, p)
+    piece_same::same_piece(mesh.record(c).piece, p)
 }
 
 // w is the vertex halfway on record n's refinement edge; r is record n.
-fn bad_children<'a>(
-    h: Header,
-    l: Layout,
-    base: &'a [u8],
-    grown: &'a [u8],
-    n: usize,
-    r: Record,
-    w: usize,
-) -> bool
-    requires { w ≡ vertex_with (tables h l base.now grown.now) (refinement_ends r.piece) }
-    ensures { result ≡ bad_children (tables h l base.now grown.now) n r }
+#[tactic(auto, unfolding(check_refusals::specs::Refusals::bad_children))]
+fn bad_children(mesh: &Mesh, n: usize, r: Record, w: usize) -> bool
+    requires { w ≡ vertex_with (tables_read mesh.now) (refinement_ends r.piece) }
+    ensures { result ≡ bad_children (tables_read mesh.now) n r }
 {
     let first = r.first_child as usize;
-    if h.vertices as usize <= w {
+    if mesh.header.vertices as usize <= w
+        || first <= n
+        || mesh.header.records as usize <= first + 1
+    {
         return true;
     }
-    if first <= n {
-        return true;
-    }
-    if h.records as usize <= first + 1 {
-        return true;
-    }
-    let p = r.piece;
-    let given = piece_cut::cut(p, w as u32);
-    let one = given.first;
-    let other = given.second;
-    if !holds(l, base, grown, first, one) {
-        return true;
-    }
-    !holds(l, base, grown, first + 1, other)
+    let given = piece_cut::cut(r.piece, w as u32);
+    !holds(mesh, first, given.first) || !holds(mesh, first + 1, given.second)
 }
 
 // A cut record counts one more at the vertex halfway on its refinement edge: tested and counted at once, since to find that vertex is what takes time.
-fn bad_cut<'a>(
-    midpoints: &mut [u16],
-    h: Header,
-    l: Layout,
-    base: &'a [u8],
-    grown: &'a [u8],
-    heads: &'a [u16],
-    nexts: &'a [u16],
-    n: usize,
-) -> bool
-    requires { Linked (tables h l base.now grown.now) heads.now nexts.now }
-    ensures value { result ≡ bad_cut (tables h l base.now grown.now) n }
-    ensures midpoints_after { midpoints.new ≡ midpoint_counted (tables h l base.now grown.now) midpoints.old n }
+fn bad_cut(midpoints: &mut [u16], mesh: &Mesh, links: &Links, n: usize) -> bool
+    requires { Linked (tables_read mesh.now) links.now.heads.now links.now.nexts.now }
+    ensures value { result ≡ bad_cut (tables_read mesh.now) n }
+    ensures midpoints_after { midpoints.new ≡ midpoint_counted (tables_read mesh.now) midpoints.old n }
 {
-    if mesh_tables::is_leaf(l, base, grown, n) {
+    if mesh_tables::is_leaf(mesh, n) {
         return false;
     }
-    let record = stored_entries::record_in(l, base, grown, n);
-    let p = record.piece;
-    let ends = piece::ends_of(p, p.edge);
-    let w = vertex_with(h, l, base, grown, heads, nexts, ends);
+    let record = mesh.record(n);
+    let ends = piece::ends_of(record.piece, record.piece.edge);
+    let w = vertex_with(mesh, links, ends);
     chains::count(midpoints, w);
-    bad_children(h, l, base, grown, n, record, w)
+    bad_children(mesh, n, record, w)
 }
 
 // Whether record c is beyond the base, and the table does not have it as the child of exactly one.
+#[tactic(auto, unfolding(crate::specs::Children::not_child_of_one_by))]
 fn not_child_of_one(h: Header, children: &[u16], c: usize) -> bool
     ensures { result ≡ not_child_of_one_by h.base_records children.now c }
 {
-    if c < h.base_records as usize {
-        return false;
-    }
-    chains::at(children, c) != 1
+    h.base_records as usize <= c && chains::at(children, c) != 1
 }
 
-fn too_deep<'a>(l: Layout, base: &'a [u8], grown: &'a [u8], n: usize) -> bool
-    ensures { result ≡ too_deep (record_in l base.now grown.now n).piece }
+#[tactic(auto, unfolding(check_refusals::specs::Refusals::too_deep))]
+fn too_deep(mesh: &Mesh, n: usize) -> bool
+    ensures { result ≡ too_deep (record_read mesh.now n).piece }
 {
-    let generation = stored_entries::generation_in(l, base, grown, n);
-    piece::LAST_GENERATION < generation
+    piece::LAST_GENERATION < mesh.generation(n)
 }
 
-fn bad_record<'a>(
-    midpoints: &mut [u16],
-    h: Header,
-    l: Layout,
-    base: &'a [u8],
-    grown: &'a [u8],
-    heads: &'a [u16],
-    nexts: &'a [u16],
-    children: &'a [u16],
-    n: usize,
-) -> bool
-    requires { Linked (tables h l base.now grown.now) heads.now nexts.now }
-    ensures value { result ≡ bad_record_by (tables h l base.now grown.now) children.now n }
-    ensures midpoints_after { midpoints.new ≡ midpoint_counted (tables h l base.now grown.now) midpoints.old n }
+#[tactic(auto, unfolding(crate::specs::Children::bad_record_by))]
+fn bad_record(midpoints: &mut [u16], mesh: &Mesh, links: &Links, children: &[u16], n: usize) -> bool
+    requires { Linked (tables_read mesh.now) links.now.heads.now links.now.nexts.now }
+    ensures value { result ≡ bad_record_by (tables_read mesh.now) children.now n }
+    ensures midpoints_after { midpoints.new ≡ midpoint_counted (tables_read mesh.now) midpoints.old n }
 {
-    if bad_cut(midpoints, h, l, base, grown, heads, nexts, n) {
-        return true;
-    }
-    if not_child_of_one(h, children, n) {
-        return true;
-    }
-    too_deep(l, base, grown, n)
+    bad_cut(midpoints, mesh, links, n)
+        || not_child_of_one(mesh.header, children, n)
+        || too_deep(mesh, n)
 }
 
 // Where no record is refused, all have counted.
-fn any_bad_record<'a>(
-    midpoints: &mut [u16],
-    h: Header,
-    l: Layout,
-    base: &'a [u8],
-    grown: &'a [u8],
-    heads: &'a [u16],
-    nexts: &'a [u16],
-    children: &'a [u16],
-) -> bool
-    requires { Linked (tables h l base.now grown.now) heads.now nexts.now }
-    ensures value { result ≡ any_below h.records (bad_record_by (tables h l base.now grown.now) children.now) }
-    ensures midpoints_after { result ≡ false → midpoints.new ≡ counts_below (midpoint_counted (tables h l base.now grown.now)) midpoints.old h.records }
+fn any_bad_record(midpoints: &mut [u16], mesh: &Mesh, links: &Links, children: &[u16]) -> bool
+    requires { Linked (tables_read mesh.now) links.now.heads.now links.now.nexts.now }
+    ensures value { result ≡ any_below mesh.now.header.records (bad_record_by (tables_read mesh.now) children.now) }
+    ensures midpoints_after { result ≡ false → midpoints.new ≡ counts_below (midpoint_counted (tables_read mesh.now)) midpoints.old mesh.now.header.records }
 {
-    let count = h.records as usize;
-    let mut n: usize = 0;
-    while n < count {
-        if bad_record(midpoints, h, l, base, grown, heads, nexts, children, n) {
+    let count = mesh.header.records as usize;
+    for n in 0..count {
+        if bad_record(midpoints, mesh, links, children, n) {
             return true;
         }
-        n += 1;
     }
     false
 }
 
 // One more at both children of record n, if it is cut.
-fn count_children<'a>(children: &mut [u16], l: Layout, base: &'a [u8], grown: &'a [u8], n: usize)
-    ensures { children.new ≡ children_counted children.old (record_in l base.now grown.now n) }
+#[tactic(auto, unfolding(crate::specs::Children::children_counted))]
+fn count_children(children: &mut [u16], mesh: &Mesh, n: usize)
+    ensures { children.new ≡ children_counted children.old (record_read mesh.now n) }
 {
-    let child = stored_entries::first_child_in(l, base, grown, n);
+    let child = mesh.first_child(n);
     if child == stored::NONE {
         return;
     }
@@ -192,122 +127,67 @@ fn count_children<'a>(children: &mut [u16], l: Layout, base: &'a [u8], grown: &'
     chains::count(children, first + 1);
 }
 
-fn count_all_children<'a>(
-    children: &mut [u16],
-    l: Layout,
-    base: &'a [u8],
-    grown: &'a [u8],
-    count: usize,
-)
-    ensures { children.new ≡ counts_below (λ t n. children_counted t (record_in l base.now grown.now n)) children.old count }
+fn count_all_children(children: &mut [u16], mesh: &Mesh, count: usize)
+    ensures { children.new ≡ counts_below (λ t n. children_counted t (record_read mesh.now n)) children.old count }
 {
-    let mut n: usize = 0;
-    while n < count {
-        count_children(children, l, base, grown, n);
-        n += 1;
+    for n in 0..count {
+        count_children(children, mesh, n);
     }
 }
 
-fn bad_records<'a>(
-    midpoints: &mut [u16],
-    h: Header,
-    l: Layout,
-    base: &'a [u8],
-    grown: &'a [u8],
-    heads: &'a [u16],
-    nexts: &'a [u16],
-    children: &mut [u16],
-) -> bool
-    requires linked { Linked (tables h l base.now grown.now) heads.now nexts.now }
-    requires records_in_bounds { h.records ≤ length children.old }
-    ensures value { result ≡ any_below h.records (bad_record (tables h l base.now grown.now)) }
-    ensures midpoints_after { result ≡ false → midpoints.new ≡ counts_below (midpoint_counted (tables h l base.now grown.now)) midpoints.old h.records }
+fn bad_records(midpoints: &mut [u16], mesh: &Mesh, links: &Links, children: &mut [u16]) -> bool
+    requires linked { Linked (tables_read mesh.now) links.now.heads.now links.now.nexts.now }
+    requires records_in_bounds { mesh.now.header.records ≤ length children.old }
+    ensures value { result ≡ any_below mesh.now.header.records (bad_record (tables_read mesh.now)) }
+    ensures midpoints_after { result ≡ false → midpoints.new ≡ counts_below (midpoint_counted (tables_read mesh.now)) midpoints.old mesh.now.header.records }
 {
-    chains::clear(children);
-    count_all_children(children, l, base, grown, h.records as usize);
-    any_bad_record(midpoints, h, l, base, grown, heads, nexts, children)
+    children.fill(0);
+    count_all_children(children, mesh, mesh.header.records as usize);
+    any_bad_record(midpoints, mesh, links, children)
 }
 
 // ---- made vertices
 
 // Whether vertex v is made, and the table does not have the first vertex with its parents.
-fn no_midpoint<'a>(
-    h: Header,
-    l: Layout,
-    base: &'a [u8],
-    grown: &'a [u8],
-    heads: &'a [u16],
-    nexts: &'a [u16],
-    midpoints: &'a [u16],
-    v: usize,
-) -> bool
-    requires { Linked (tables h l base.now grown.now) heads.now nexts.now }
-    ensures { result ≡ no_midpoint_by (tables h l base.now grown.now) midpoints.now v }
+#[tactic(auto, unfolding(crate::specs::Midpoints::no_midpoint_by))]
+fn no_midpoint(mesh: &Mesh, links: &Links, midpoints: &[u16], v: usize) -> bool
+    requires { Linked (tables_read mesh.now) links.now.heads.now links.now.nexts.now }
+    ensures { result ≡ no_midpoint_by (tables_read mesh.now) midpoints.now v }
 {
-    if v < h.base_vertices as usize {
+    if v < mesh.header.base_vertices as usize {
         return false;
     }
-    let ends = stored_entries::parents_in(l, base, grown, v);
-    let w = vertex_with(h, l, base, grown, heads, nexts, ends);
+    let ends = mesh.parents(v);
+    let w = vertex_with(mesh, links, ends);
     chains::at(midpoints, w) == 0
 }
 
-fn no_midpoints<'a>(
-    h: Header,
-    l: Layout,
-    base: &'a [u8],
-    grown: &'a [u8],
-    heads: &'a [u16],
-    nexts: &'a [u16],
-    midpoints: &'a [u16],
-) -> bool
-    requires { Linked (tables h l base.now grown.now) heads.now nexts.now }
-    ensures { result ≡ any_below h.vertices (no_midpoint_by (tables h l base.now grown.now) midpoints.now) }
+fn no_midpoints(mesh: &Mesh, links: &Links, midpoints: &[u16]) -> bool
+    requires { Linked (tables_read mesh.now) links.now.heads.now links.now.nexts.now }
+    ensures { result ≡ any_below mesh.now.header.vertices (no_midpoint_by (tables_read mesh.now) midpoints.now) }
 {
-    let count = h.vertices as usize;
-    let mut v: usize = 0;
-    while v < count {
-        if no_midpoint(h, l, base, grown, heads, nexts, midpoints, v) {
-            return true;
-        }
-        v += 1;
-    }
-    false
+    let count = mesh.header.vertices as usize;
+    (0..count).any(|v| no_midpoint(mesh, links, midpoints, v))
 }
 
 // Whether what is lent has no room for the links of all vertices, or no place for some record or vertex.
-fn is_cramped(h: Header, heads: &[u16], nexts: &[u16], children: &[u16], midpoints: &[u16]) -> bool
-    ensures { result ≡ cramped h heads.now nexts.now children.now midpoints.now }
+#[tactic(auto, unfolding(crate::specs::Lent::cramped))]
+fn is_cramped(h: Header, links: &Links, children: &[u16], midpoints: &[u16]) -> bool
+    ensures { result ≡ cramped h links.now.heads.now links.now.nexts.now children.now midpoints.now }
 {
-    if chains::is_short(heads, nexts, h.vertices as usize) {
-        return true;
-    }
-    if children.len() < h.records as usize {
-        return true;
-    }
-    midpoints.len() < h.vertices as usize
+    links.is_short(h.vertices as usize)
+        || children.len() < h.records as usize
+        || midpoints.len() < h.vertices as usize
 }
 
 // Links and tables are lent; what has no room for the mesh refuses.
-pub fn bad_cuts<'a>(
-    h: Header,
-    l: Layout,
-    base: &'a [u8],
-    grown: &'a [u8],
-    heads: &mut [u16],
-    nexts: &mut [u16],
-    children: &mut [u16],
-    midpoints: &mut [u16],
-) -> bool
-    ensures { result ≡ (cramped h heads.old nexts.old children.old midpoints.old || bad_cuts (tables h l base.now grown.now)) }
+pub fn bad_cuts(mesh: &Mesh, links: &mut Links, children: &mut [u16], midpoints: &mut [u16]) -> bool
+    ensures { result ≡ (cramped mesh.now.header links.old.heads.now links.old.nexts.now children.old midpoints.old || bad_cuts (tables_read mesh.now)) }
 {
-    if is_cramped(h, heads, nexts, children, midpoints) {
+    if is_cramped(mesh.header, links, children, midpoints) {
         return true;
     }
-    mesh_parents::link_pairs(h, l, base, grown, heads, nexts);
-    chains::clear(midpoints);
-    if bad_records(midpoints, h, l, base, grown, heads, nexts, children) {
-        return true;
-    }
-    no_midpoints(h, l, base, grown, heads, nexts, midpoints)
+    mesh_parents::link_pairs(mesh, links);
+    midpoints.fill(0);
+    bad_records(midpoints, mesh, links, children) || no_midpoints(mesh, links, midpoints)
 }

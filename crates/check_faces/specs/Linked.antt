@@ -6,7 +6,7 @@ use Rattle.std.proofs.Math.Logic.{⊎_elim}
 use Prim.Native.Nat.{ℕ, zero, suc, ◌+◌, ◌*◌, ◌/◌, ◌%◌, ◌≤◌, ◌<◌}
 use native.Mathlib.Omega.{arith}
 use Rattle.laws.specs.Below.{any_below, any_same, and_left, and_right, either}
-use Rattle.laws.specs.Links.{greatest, key_among, key_within, Empty, Links, links_of, pushed, zeros_at, chain_start, Kept, kept_next, any_along, link_at, any_gap, chain_any, chain_any_on}
+use Rattle.laws.specs.Links.{greatest, key_among, key_within, Empty, Links, links_of, pushed, pushed_heads_long, pushed_nexts_long, zeros_at, chain_start, Kept, kept_next, any_along, link_at, any_gap, chain_any, chain_any_on}
 use Rattle.piece.specs.declared.Piece.{Piece}
 use Rattle.stored.specs.declared.Record.{Record}
 use Rattle.check_refusals.specs.Refusals.{bad_faces}
@@ -59,6 +59,15 @@ bad_linked record_at heads nexts q own = any_below 4 (λ i. bad_along record_at 
 unfoldable pub pushed_faces : Links → List ℕ → ℕ → Links
 pushed_faces links own n =
     pushed (pushed (pushed (pushed links (get_or own 0 0) (4 * n)) (get_or own 1 0) (4 * n + 1)) (get_or own 2 0) (4 * n + 2)) (get_or own 3 0) (4 * n + 3)
+
+-- The lists stay as long as they are, at one push and at four.
+pub pushed_long : (links after : Links) (k v : ℕ) → after ≡ pushed links k v → (length after.heads ≡ length links.heads) × (length after.nexts ≡ length links.nexts)
+pushed_long links after k v is = (rw is (pushed_heads_long links k v), rw is (pushed_nexts_long links k v))
+
+pub faces_long : (links after : Links) (own : List ℕ) (n : ℕ) → after ≡ pushed_faces links own n → (length after.heads ≡ length links.heads) × (length after.nexts ≡ length links.nexts)
+unfolding pushed_faces
+faces_long links after own n is =
+    (rw (is, pushed_heads_long, pushed_heads_long, pushed_heads_long, pushed_heads_long), rw (is, pushed_nexts_long, pushed_nexts_long, pushed_nexts_long, pushed_nexts_long))
 
 -- One push after the other.
 pub four_pushed : (own : List ℕ) (n : ℕ) (links a b c d : Links) → a ≡ pushed links (get_or own 0 0) (4 * n) → b ≡ pushed a (get_or own 1 0) (4 * n + 1) →

@@ -6,17 +6,19 @@
 
 ghost use Rattle.std.specs.Prelude.{◌≡◌, ◌||◌, ◌+◌, ◌*◌, ◌≤◌, ◌<◌, length};
 ghost use Rattle.laws.specs.Below.{any_below};
-ghost use Rattle.laws.specs.Links.{greatest, links_of, pushed, short, Roomy, Empty};
-ghost use Rattle.stored.specs.Layout.{record_in};
-ghost use Rattle.mesh_tables.specs.Tables.{tables};
+ghost use Rattle.laws.specs.Links.{greatest, pushed, short, Roomy, Empty};
+ghost use Rattle.chains.specs.Held.{links_in};
+ghost use Rattle.mesh_tables.specs.Tables.{tables_read};
 ghost use Rattle.check_refusals.specs.Refusals.{bad_faces, bad_base_faces};
 ghost use Rattle.check_shared.specs.Faces.{face_of};
 ghost use Rattle.check_faces.specs.Faces.{is_face, is_before, bad_face};
 ghost use Rattle.check_faces.specs.Linked.{face_key, keys_of, KeysWithin, before_along, before_from, bad_along, bad_linked, pushed_faces};
+ghost use Rattle.stored_entries.specs.Mesh.{record_read};
 
+use chains::Links;
 use check_shared::Face;
 use piece::Piece;
-use stored::{Header, Layout};
+use stored_entries::Mesh;
 
 // How many faces the base records may have.
 pub const FACES: usize = 4 * stored::RECORDS;
@@ -41,210 +43,123 @@ fn keys_of(keys: usize, p: [u32; 4]) -> [usize; 4]
 }
 
 // Whether face f is this one.
-fn is_face<'a>(l: Layout, base: &'a [u8], grown: &'a [u8], face: Face, f: usize) -> bool
-    ensures { result ≡ is_face (record_in l base.now grown.now) face f }
+fn is_face(mesh: &Mesh, face: Face, f: usize) -> bool
+    ensures { result ≡ is_face (record_read mesh.now) face f }
 {
-    let p = stored_entries::corners_in(l, base, grown, f / 4);
-    let found = check_shared::face_of(p, (f % 4) as u8);
+    let found = check_shared::face_of(mesh.corners(f / 4), (f % 4) as u8);
     check_shared::same_face(found, face)
 }
 
 // Whether it is, and its record comes before r.
-fn is_before<'a>(l: Layout, base: &'a [u8], grown: &'a [u8], face: Face, r: usize, f: usize) -> bool
-    ensures { result ≡ is_before (record_in l base.now grown.now) face r f }
+fn is_before(mesh: &Mesh, face: Face, r: usize, f: usize) -> bool
+    ensures { result ≡ is_before (record_read mesh.now) face r f }
 {
-    if r <= f / 4 {
-        return false;
-    }
-    is_face(l, base, grown, face, f)
+    f / 4 < r && is_face(mesh, face, f)
 }
 
 // Whether a record before r has this face, along the links from m on.
-fn before_along<'a>(
-    l: Layout,
-    base: &'a [u8],
-    grown: &'a [u8],
-    nexts: &[u16],
-    m: usize,
-    face: Face,
-    r: usize,
-) -> bool
-    ensures { result ≡ before_along (record_in l base.now grown.now) nexts.now m face r }
+fn before_along(mesh: &Mesh, links: &Links, m: usize, face: Face, r: usize) -> bool
+    ensures { result ≡ before_along (record_read mesh.now) links.now.nexts.now m face r }
 {
-    let mut to = m;
-    while 0 < to {
-        let f = to - 1;
-        if is_before(l, base, grown, face, r, f) {
-            return true;
-        }
-        to = chains::link(nexts, f);
-    }
-    false
+    links.any(m, |f| is_before(mesh, face, r, f))
 }
 
 // Whether face f is this one, which is face i of q, and the two records are bad together. Links lead down: a face of a record before stands further along.
-fn bad_face<'a>(
-    l: Layout,
-    base: &'a [u8],
-    grown: &'a [u8],
-    nexts: &[u16],
-    q: Piece,
-    i: u8,
-    face: Face,
-    f: usize,
-) -> bool
-    ensures { result ≡ bad_face (record_in l base.now grown.now) (before_from (record_in l base.now grown.now) nexts.now face) q i face f }
+fn bad_face(mesh: &Mesh, links: &Links, q: Piece, i: u8, face: Face, f: usize) -> bool
+    ensures { result ≡ bad_face (record_read mesh.now) (before_from (record_read mesh.now) links.now.nexts.now face) q i face f }
 {
     let r = f / 4;
     let j = (f % 4) as u8;
-    let p = stored_entries::corners_in(l, base, grown, r);
-    let found = check_shared::face_of(p, j);
-    if !check_shared::same_face(found, face) {
+    let p = mesh.corners(r);
+    if !check_shared::same_face(check_shared::face_of(p, j), face) {
         return false;
     }
-    let c = q.corners;
-    let e = stored_entries::mark_in(l, base, grown, r, j);
-    if !check_shared::same_edge(p, e, c, piece::mark_of(q, i)) {
-        return true;
-    }
-    if check_shared::same_rest(p, j, c, i) {
-        return true;
-    }
-    before_along(l, base, grown, nexts, chains::link(nexts, f), face, r)
+    !check_shared::same_edge(p, mesh.mark(r, j), q.corners, piece::mark_of(q, i))
+        || check_shared::same_rest(p, j, q.corners, i)
+        || before_along(mesh, links, links.link(f), face, r)
 }
 
 // Whether face i of q is bad with a face along the links from m on.
-fn bad_along<'a>(
-    l: Layout,
-    base: &'a [u8],
-    grown: &'a [u8],
-    nexts: &[u16],
-    m: usize,
-    q: Piece,
-    i: u8,
-) -> bool
-    ensures { result ≡ bad_along (record_in l base.now grown.now) nexts.now m q i }
+fn bad_along(mesh: &Mesh, links: &Links, m: usize, q: Piece, i: u8) -> bool
+    ensures { result ≡ bad_along (record_read mesh.now) links.now.nexts.now m q i }
 {
-    let c = q.corners;
-    let face = check_shared::face_of(c, i);
-    let mut to = m;
-    while 0 < to {
-        let f = to - 1;
-        if bad_face(l, base, grown, nexts, q, i, face, f) {
-            return true;
-        }
-        to = chains::link(nexts, f);
-    }
-    false
+    let face = check_shared::face_of(q.corners, i);
+    links.any(m, |f| bad_face(mesh, links, q, i, face, f))
 }
 
 // Whether one of q's faces is, each along the links of its own key. They are asked in one loop, so that the whole walk is compiled once and in one piece.
-fn bad_linked<'a>(
-    l: Layout,
-    base: &'a [u8],
-    grown: &'a [u8],
-    heads: &[u16],
-    nexts: &[u16],
-    q: Piece,
-    own: [usize; 4],
-) -> bool
-    ensures { result ≡ bad_linked (record_in l base.now grown.now) heads.now nexts.now q own }
+fn bad_linked(mesh: &Mesh, links: &Links, q: Piece, own: [usize; 4]) -> bool
+    ensures { result ≡ bad_linked (record_read mesh.now) links.now.heads.now links.now.nexts.now q own }
 {
-    let mut i: u8 = 0;
-    while i < 4 {
-        let m = chains::at(heads, own[i as usize]);
-        if bad_along(l, base, grown, nexts, m, q, i) {
+    for i in 0..4u8 {
+        if bad_along(mesh, links, links.head(own[i as usize]), q, i) {
             return true;
         }
-        i += 1;
     }
     false
 }
 
-// The number f is put before the others with key k: `chains::push` where it is known that there is room, so that nothing is tested for each face.
-fn put(heads: &mut [u16], nexts: &mut [u16], k: usize, f: usize)
-    requires k_in_bounds { k < length heads.old }
-    requires f_in_bounds { f < length nexts.old }
+// The number f is put before the others with key k: `Links::push` where it is known that there is room, so that nothing is tested for each face.
+fn put(links: &mut Links, k: usize, f: usize)
+    requires k_in_bounds { k < length links.old.heads.now }
+    requires f_in_bounds { f < length links.old.nexts.now }
     requires f_lt_greatest { f < greatest }
-    ensures { links_of heads.new nexts.new ≡ pushed (links_of heads.old nexts.old) k f }
+    ensures { links_in links.new ≡ pushed (links_in links.old) k f }
 {
-    nexts[f] = heads[k];
-    heads[k] = (f + 1) as u16;
+    links.nexts[f] = links.heads[k];
+    links.heads[k] = (f + 1) as u16;
 }
 
 // The faces of record n are put before the others with their keys; there is room for them.
-fn push_faces(heads: &mut [u16], nexts: &mut [u16], own: [usize; 4], n: usize)
-    requires keys_within { KeysWithin own (length heads.old) }
-    requires n_in_bounds { 4 * (n + 1) ≤ length nexts.old }
+fn push_faces(links: &mut Links, own: [usize; 4], n: usize)
+    requires keys_within { KeysWithin own (length links.old.heads.now) }
+    requires n_in_bounds { 4 * (n + 1) ≤ length links.old.nexts.now }
     requires n_bound { 4 * (n + 1) ≤ greatest }
-    ensures { links_of heads.new nexts.new ≡ pushed_faces (links_of heads.old nexts.old) own n }
+    ensures { links_in links.new ≡ pushed_faces (links_in links.old) own n }
 {
     let f = 4 * n;
-    put(heads, nexts, own[0], f);
-    put(heads, nexts, own[1], f + 1);
-    put(heads, nexts, own[2], f + 2);
-    put(heads, nexts, own[3], f + 3);
+    put(links, own[0], f);
+    put(links, own[1], f + 1);
+    put(links, own[2], f + 2);
+    put(links, own[3], f + 3);
 }
 
 // Whether record n is bad with one before it; then its faces are linked too.
-fn bad_record<'a>(
-    l: Layout,
-    base: &'a [u8],
-    grown: &'a [u8],
-    heads: &mut [u16],
-    nexts: &mut [u16],
-    n: usize,
-) -> bool
-    requires { Roomy heads.old nexts.old (4 * (n + 1)) }
-    ensures value { result ≡ bad_linked (record_in l base.now grown.now) heads.old nexts.old (record_in l base.now grown.now n).piece (keys_of (length heads.old) (record_in l base.now grown.now n).piece.corners) }
-    ensures nexts_after { links_of heads.new nexts.new ≡ pushed_faces (links_of heads.old nexts.old) (keys_of (length heads.old) (record_in l base.now grown.now n).piece.corners) n }
+fn bad_record(mesh: &Mesh, links: &mut Links, n: usize) -> bool
+    requires { Roomy links.old.heads.now links.old.nexts.now (4 * (n + 1)) }
+    ensures value { result ≡ bad_linked (record_read mesh.now) links.old.heads.now links.old.nexts.now (record_read mesh.now n).piece (keys_of (length links.old.heads.now) (record_read mesh.now n).piece.corners) }
+    ensures nexts_after { links_in links.new ≡ pushed_faces (links_in links.old) (keys_of (length links.old.heads.now) (record_read mesh.now n).piece.corners) n }
 {
-    let record = stored_entries::record_in(l, base, grown, n);
-    let q = record.piece;
-    let c = q.corners;
-    let own = keys_of(heads.len(), c);
-    let bad = bad_linked(l, base, grown, heads, nexts, q, own);
-    push_faces(heads, nexts, own, n);
+    let q = mesh.record(n).piece;
+    let own = keys_of(links.keys(), q.corners);
+    let bad = bad_linked(mesh, links, q, own);
+    push_faces(links, own, n);
     bad
 }
 
 // The records one after the other, each against the faces of those before it.
-fn bad_below<'a>(
-    l: Layout,
-    base: &'a [u8],
-    grown: &'a [u8],
-    heads: &mut [u16],
-    nexts: &mut [u16],
-    count: usize,
-) -> bool
-    requires { Roomy heads.old nexts.old (4 * count) }
-    ensures { Empty heads.old → result ≡ any_below count (bad_faces (record_in l base.now grown.now)) }
+fn bad_below(mesh: &Mesh, links: &mut Links, count: usize) -> bool
+    requires { Roomy links.old.heads.now links.old.nexts.now (4 * count) }
+    ensures { Empty links.old.heads.now → result ≡ any_below count (bad_faces (record_read mesh.now)) }
 {
-    let mut n: usize = 0;
-    while n < count {
-        if bad_record(l, base, grown, heads, nexts, n) {
+    for n in 0..count {
+        if bad_record(mesh, links, n) {
             return true;
         }
-        n += 1;
     }
     false
 }
 
 // Lists that are too short for the faces are answered at once. The heads are to be lent as they were made: to clear as many once more takes a quarter of all rules'
 // time on a small mesh.
-pub fn bad_base_faces<'a>(
-    h: Header,
-    l: Layout,
-    base: &'a [u8],
-    grown: &'a [u8],
-    heads: &mut [u16],
-    nexts: &mut [u16],
-) -> bool
-    ensures { Empty heads.old → result ≡ (short heads.old nexts.old (4 * h.base_records) || bad_base_faces (tables h l base.now grown.now)) }
+pub fn bad_base_faces(mesh: &Mesh, links: &mut Links) -> bool
+    ensures { Empty links.old.heads.now → result ≡ (short links.old.heads.now links.old.nexts.now (4 * mesh.now.header.base_records) || bad_base_faces (tables_read mesh.now)) }
 {
-    let count = h.base_records as usize;
-    if chains::is_short(heads, nexts, 4 * count) {
-        return true;
-    }
-    bad_below(l, base, grown, heads, nexts, count)
+    let count = mesh.header.base_records as usize;
+    // The same two lists in a struct of its own: where they stand is then known after each write to them, and not read again.
+    let links = &mut Links {
+        heads: links.heads,
+        nexts: links.nexts,
+    };
+    links.is_short(4 * count) || bad_below(mesh, links, count)
 }

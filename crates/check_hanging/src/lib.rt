@@ -2,82 +2,59 @@
 #![tactic(auto)]
 
 ghost use Rattle.std.specs.Prelude.{◌≡◌};
-ghost use Rattle.mesh_tables.specs.Tables.{tables};
+ghost use Rattle.mesh_tables.specs.Tables.{tables_read};
 ghost use Rattle.mesh_parents.specs.Pairs.{Linked};
 ghost use Rattle.check_hanging.specs.Hanging.{found_of, found_along};
 
-use stored::{Header, Layout};
+use chains::Links;
+use stored_entries::Mesh;
 
-// A record's number and an edge code.
-#[derive(Clone, Copy)]
-pub enum Found {
-    At(usize, u8),
-    Nothing,
+// An edge of a record: the record's number and an edge code.
+#[derive(Clone, Copy, PartialEq, Eq)]
+pub struct HangingEdge {
+    pub record: usize,
+    pub edge: u8,
 }
 
 // The search over records, six edge codes and made vertices, of these only the ones with the key of the edge's ends, left with the place
 // found.
-fn search<'a>(
-    h: Header,
-    l: Layout,
-    base: &'a [u8],
-    grown: &'a [u8],
-    heads: &'a [u16],
-    nexts: &'a [u16],
-) -> Found
-    requires { Linked (tables h l base.now grown.now) heads.now nexts.now }
-    ensures { result ≡ found_of (tables h l base.now grown.now) }
+fn search(mesh: &Mesh, links: &Links) -> Option<HangingEdge>
+    requires { Linked (tables_read mesh.now) links.now.heads.now links.now.nexts.now }
+    ensures { result ≡ found_of (tables_read mesh.now) }
 {
-    let all_records = h.records as usize;
-    let mut found = Found::Nothing;
-    let mut n: usize = 0;
-    'search: while n < all_records {
-        if !mesh_tables::is_leaf(l, base, grown, n) {
-            n += 1;
+    let all_records = mesh.header.records as usize;
+    let mut found = None;
+    'search: for n in 0..all_records {
+        if !mesh_tables::is_leaf(mesh, n) {
             continue 'search;
         }
-        let corners = stored_entries::corners_in(l, base, grown, n);
-        if !mesh_hanging::any_linked(heads, corners) {
-            n += 1;
+        let corners = mesh.corners(n);
+        if !mesh_hanging::any_linked(links, corners) {
             continue 'search;
         }
-        let mut e: u8 = 0;
-        while e < 6 {
+        for e in 0..6u8 {
             let ends = piece::ends_at(corners, e);
-            let mut to = mesh_parents::head_of(heads, ends);
-            while 0 < to {
-                let v = to - 1;
-                if mesh_parents::has_parents(h, l, base, grown, ends, v) {
-                    found = Found::At(n, e);
-                    break 'search;
-                }
-                to = chains::link(nexts, v);
+            let head = mesh_parents::head_of(links, ends);
+            if links.any(head, |v| mesh_parents::has_parents(mesh, ends, v)) {
+                found = Some(HangingEdge { record: n, edge: e });
+                break 'search;
             }
-            e += 1;
         }
-        n += 1;
     }
     found
 }
 
 // The first edge found hanging. The made vertices are linked by their parents first, in lists that are lent; where there is none, none hangs, and where the
 // lists are too short for the links, nothing is looked for.
-pub fn first_hanging<'a>(
-    h: Header,
-    l: Layout,
-    base: &'a [u8],
-    grown: &'a [u8],
-    heads: &mut [u16],
-    nexts: &mut [u16],
-) -> Found
-    ensures { result ≡ found_along heads.old nexts.old (tables h l base.now grown.now) }
+pub fn first_hanging(mesh: &Mesh, links: &mut Links) -> Option<HangingEdge>
+    ensures { result ≡ found_along links.old.heads.now links.old.nexts.now (tables_read mesh.now) }
 {
-    if chains::is_short(heads, nexts, h.vertices as usize) {
-        return Found::Nothing;
+    if links.is_short(mesh.header.vertices as usize) {
+        return None;
     }
-    if h.vertices <= h.base_vertices {
-        return Found::Nothing;
+    if mesh.header.vertices <= mesh.header.base_vertices {
+        return None;
     }
-    mesh_parents::link_pairs(h, l, base, grown, heads, nexts);
-    search(h, l, base, grown, heads, nexts)
+    mesh_parents::link_pairs(mesh, links);
+    search(mesh, links)
 }

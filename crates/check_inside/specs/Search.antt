@@ -1,6 +1,6 @@
 -- What is found in the cells that a right-handed piece's box meets is what a search through all vertices would find. Assumes nothing.
 use Rattle.std.specs.Prelude.{◌≡◌, refl, Bool, true, false, ◌&&◌, List, [], ◌∷◌, length, replicate, pos, ◌<ℤ◌, ltb}
-use Rattle.std.proofs.Common.{sym, ap, ◌∙◌, subst₂, le_refl, mul-le-mul}
+use Rattle.std.proofs.Common.{sym, ap, ◌∙◌, le_refl, mul-le-mul}
 use Rattle.std.proofs.Math.Path.{subst, fun_ext}
 use Rattle.std.proofs.Math.Bool.{not}
 use Prim.Native.Nat.{ℕ, zero, suc, ◌+◌, ◌-◌, ◌≤◌, ◌<◌}
@@ -10,7 +10,7 @@ use Rattle.std.proofs.lemmas.List.{length-replicate}
 use Rattle.std.specs.Float.Ieee.Nearest.{div_mono}
 use borrow.Author.Tests.{ltb-true, lt-ltb, le-leb}
 use Rattle.laws.specs.Below.{and_left, and_right, same_tests, any_below, any_none, any_suc, any_is, any_where, any_same, fold_below, all_below}
-use Rattle.laws.specs.Links.{any_along_where, chain_finds, Chain, links_of, linked_below, linked_heads_long, zeros_at, chain_linked, key_among, key_within, Roomy}
+use Rattle.laws.specs.Links.{any_along_where, chain_finds, Chain, Links, links_of, links_are, linked_below, linked_heads_long, zeros_at, chain_linked, key_among, key_within, Roomy}
 use Rattle.piece.specs.declared.Piece.{Piece}
 use Rattle.grid.specs.declared.Place.{Place}
 use Rattle.grid.specs.Places.{Point, point_of}
@@ -237,17 +237,26 @@ cells_asked vertex_at p count {q} width heads nexts is some c right least most f
 -- ---- the links
 
 -- Where there is room, what is linked from cleared heads on is a chain by cells.
+pub cells_filled : (vertex_at : ℕ → Vertex) (width : ℕ) (count : ℕ) (heads nexts : List ℕ) (start links : Links) → Roomy heads nexts count → start ≡ links_of (replicate (length heads) 0) nexts →
+    links ≡ linked_below (λ v. place_key (length start.heads) width (vertex_at v).place) start count →
+    (0 < length links.heads) × Chain (λ v. place_key (length links.heads) width (vertex_at v).place) count links.heads links.nexts
+cells_filled vertex_at width count heads nexts start links room clear are =
+    let key : ℕ → ℕ → ℕ = λ keys v. place_key keys width (vertex_at v).place in
+    let same : length links.heads ≡ length start.heads = ap (λ (l : Links). length l.heads) are ∙ linked_heads_long (key (length start.heads)) start count in
+    let long : length start.heads ≡ length heads = ap (λ (l : Links). length l.heads) clear ∙ length-replicate {A = ℕ} (length heads) 0 in
+    let zeros : (k : ℕ) → get_or start.heads k 0 ≡ 0 = λ k. ap (λ (l : Links). get_or l.heads k 0) clear ∙ zeros_at (length heads) k in
+    let places : count ≤ length start.nexts = rw clear room.places in (
+      omega (arith, same, long, room.keys),
+      subst (λ (keys : ℕ). Chain (key keys) count links.heads links.nexts) (sym same)
+          (subst (λ (l : Links). Chain (key (length start.heads)) count l.heads l.nexts) (sym are)
+          (chain_linked (key (length start.heads)) start count zeros places room.fits)),
+    )
+
+-- The same of four lists.
 pub cells_linked : (vertex_at : ℕ → Vertex) (width : ℕ) (count : ℕ) (heads nexts cleared heads' nexts' : List ℕ) → Roomy heads nexts count → cleared ≡ replicate (length heads) 0 →
     heads' ≡ (linked_below (λ v. place_key (length cleared) width (vertex_at v).place) (links_of cleared nexts) count).heads →
     nexts' ≡ (linked_below (λ v. place_key (length cleared) width (vertex_at v).place) (links_of cleared nexts) count).nexts →
     (0 < length heads') × Chain (λ v. place_key (length heads') width (vertex_at v).place) count heads' nexts'
 cells_linked vertex_at width count heads nexts cleared heads' nexts' room clear heads_are nexts_are =
-    let key : ℕ → ℕ → ℕ = λ keys v. place_key keys width (vertex_at v).place in
-    let same : length heads' ≡ length cleared = ap length heads_are ∙ linked_heads_long (key (length cleared)) (links_of cleared nexts) count in
-    let long : length cleared ≡ length heads = ap length clear ∙ length-replicate {A = ℕ} (length heads) 0 in
-    let zeros : (k : ℕ) → get_or cleared k 0 ≡ 0 = λ k. ap (λ (t : List ℕ). get_or t k 0) clear ∙ zeros_at (length heads) k in (
-      omega (arith, same, long, room.keys),
-      subst (λ (keys : ℕ). Chain (key keys) count heads' nexts') (sym same)
-          (subst₂ (λ (a b : List ℕ). Chain (key (length cleared)) count a b) (sym heads_are) (sym nexts_are)
-          (chain_linked (key (length cleared)) (links_of cleared nexts) count zeros room.places room.fits)),
-    )
+    cells_filled vertex_at width count heads nexts (links_of cleared nexts) (links_of heads' nexts') room (ap (λ (t : List ℕ). links_of t nexts) clear)
+    (links_are _ _ _ heads_are nexts_are)

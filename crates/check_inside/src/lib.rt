@@ -3,16 +3,19 @@
 
 ghost use Rattle.std.specs.Prelude.{◌≡◌, ◌||◌, ◌<◌, ◌≤◌, min, max, length};
 ghost use Rattle.laws.specs.Below.{any_below};
-ghost use Rattle.laws.specs.Links.{links_of, linked_below, short, Chain};
+ghost use Rattle.laws.specs.Links.{linked_below, short, Chain};
+ghost use Rattle.chains.specs.Held.{links_in};
 ghost use Rattle.grid.specs.Places.{point_of};
+ghost use Rattle.grid_volume.specs.Volume.{corners_of, left_handed};
 ghost use Rattle.grid_inside.specs.Inside.{lies_in};
-ghost use Rattle.stored.specs.Layout.{vertex_in, record_in};
-ghost use Rattle.mesh_tables.specs.Tables.{tables};
+ghost use Rattle.mesh_tables.specs.Tables.{tables_read};
 ghost use Rattle.check_refusals.specs.Refusals.{hangs_on, hanging_vertices};
-ghost use Rattle.check_inside.specs.Cells.{slab_of, slabs_of, cell_number, place_key, lower_of, upper_of, asking_of, standing, is_corner, is_within, hangs_among, hangs_below, in_cell, in_row, in_layer, in_block};
+ghost use Rattle.check_inside.specs.Cells.{slab_of, slabs_of, cell_number, place_key, lower_of, upper_of, low_of, high_of, asking_of, standing, is_corner, is_within, hangs_among, hangs_below, in_cell, in_row, in_layer, in_block};
+ghost use Rattle.stored_entries.specs.Mesh.{vertex_read, record_read};
 
+use chains::Links;
 use grid::Place;
-use stored::{Header, Layout};
+use stored_entries::Mesh;
 
 // The numbers of a cell along the three axes.
 #[derive(Clone, Copy)]
@@ -38,28 +41,30 @@ struct Asking {
     d: Corner,
 }
 
+// The box of a piece, by its least and its greatest coordinates.
+#[derive(Clone, Copy)]
+struct PieceBox {
+    low: Place,
+    high: Place,
+}
+
+// The cells from one to another along each axis.
+#[derive(Clone, Copy)]
+struct Block {
+    from: Slabs,
+    to: Slabs,
+}
+
 // So many pieces, or one more, are looked at for the cells' width.
 const SAMPLES: u32 = 32;
-
-fn least(a: u16, b: u16) -> u16
-    ensures { result ≡ min a b }
-{
-    if a < b { a } else { b }
-}
-
-fn greatest(a: u16, b: u16) -> u16
-    ensures { result ≡ max a b }
-{
-    if a < b { b } else { a }
-}
 
 fn lower(p: Place, q: Place) -> Place
     ensures { result ≡ lower_of p q }
 {
     Place {
-        x: least(p.x, q.x),
-        y: least(p.y, q.y),
-        z: least(p.z, q.z),
+        x: p.x.min(q.x),
+        y: p.y.min(q.y),
+        z: p.z.min(q.z),
     }
 }
 
@@ -67,9 +72,9 @@ fn upper(p: Place, q: Place) -> Place
     ensures { result ≡ upper_of p q }
 {
     Place {
-        x: greatest(p.x, q.x),
-        y: greatest(p.y, q.y),
-        z: greatest(p.z, q.z),
+        x: p.x.max(q.x),
+        y: p.y.max(q.y),
+        z: p.z.max(q.z),
     }
 }
 
@@ -104,139 +109,96 @@ fn place_key(keys: usize, width: u16, p: Place) -> usize
 }
 
 // The first so many vertices, one after the other.
-fn link_all<'a>(
-    l: Layout,
-    base: &'a [u8],
-    grown: &'a [u8],
-    count: usize,
-    width: u16,
-    heads: &mut [u16],
-    nexts: &mut [u16],
-)
-    ensures heads_after { heads.new ≡ (linked_below (λ v. place_key (length heads.old) width (vertex_in l base.now grown.now v).place) (links_of heads.old nexts.old) count).heads }
-    ensures nexts_after { nexts.new ≡ (linked_below (λ v. place_key (length heads.old) width (vertex_in l base.now grown.now v).place) (links_of heads.old nexts.old) count).nexts }
+fn link_all(mesh: &Mesh, count: usize, width: u16, links: &mut Links)
+    ensures { links_in links.new ≡ linked_below (λ v. place_key (length links.old.heads.now) width (vertex_read mesh.now v).place) (links_in links.old) count }
 {
-    let mut v: usize = 0;
-    while v < count {
-        let place = stored_entries::place_in(l, base, grown, v);
-        let key = place_key(heads.len(), width, place);
-        chains::push(heads, nexts, key, v);
-        v += 1;
+    for v in 0..count {
+        let key = place_key(links.keys(), width, mesh.place(v));
+        links.push(key, v);
     }
 }
 
-fn corner_of<'a>(l: Layout, base: &'a [u8], grown: &'a [u8], number: u32) -> Corner
-    ensures { result ≡ record { number = number; place = (vertex_in l base.now grown.now number).place } }
+fn corner_of(mesh: &Mesh, number: u32) -> Corner
+    ensures { result ≡ record { number = number; place = (vertex_read mesh.now number).place } }
 {
-    let place = stored_entries::place_in(l, base, grown, number as usize);
     Corner {
-        number: number,
-        place: place,
+        number,
+        place: mesh.place(number as usize),
     }
 }
 
-fn asking_of<'a>(l: Layout, base: &'a [u8], grown: &'a [u8], n: usize) -> Asking
-    ensures { result ≡ asking_of (vertex_in l base.now grown.now) (record_in l base.now grown.now n).piece }
+fn asking_of(mesh: &Mesh, n: usize) -> Asking
+    ensures { result ≡ asking_of (vertex_read mesh.now) (record_read mesh.now n).piece }
 {
-    let corners = stored_entries::corners_in(l, base, grown, n);
-    let a = corner_of(l, base, grown, corners[0]);
-    let b = corner_of(l, base, grown, corners[1]);
-    let c = corner_of(l, base, grown, corners[2]);
-    let d = corner_of(l, base, grown, corners[3]);
+    let corners = mesh.corners(n);
     Asking {
-        a: a,
-        b: b,
-        c: c,
-        d: d,
+        a: corner_of(mesh, corners[0]),
+        b: corner_of(mesh, corners[1]),
+        c: corner_of(mesh, corners[2]),
+        d: corner_of(mesh, corners[3]),
+    }
+}
+
+// The box of its corners.
+fn box_of(q: Asking) -> PieceBox
+    ensures { result ≡ record { low = low_of q; high = high_of q } }
+{
+    PieceBox {
+        low: lower(lower(q.a.place, q.b.place), lower(q.c.place, q.d.place)),
+        high: upper(upper(q.a.place, q.b.place), upper(q.c.place, q.d.place)),
     }
 }
 
 fn is_corner(q: Asking, v: u32) -> bool
     ensures { result ≡ is_corner q v }
 {
-    let a = q.a;
-    if a.number == v {
-        return true;
-    }
-    let b = q.b;
-    if b.number == v {
-        return true;
-    }
-    let c = q.c;
-    if c.number == v {
-        return true;
-    }
-    let d = q.d;
-    d.number == v
+    q.a.number == v || q.b.number == v || q.c.number == v || q.d.number == v
 }
 
-// Whether what stands here lies in the closed piece: each corner in turn is replaced by it.
+// Whether four places, in this order, are left-handed.
+fn left_handed(a: Place, b: Place, c: Place, d: Place) -> bool
+    ensures { result ≡ left_handed (corners_of (point_of a) (point_of b) (point_of c) (point_of d)) }
+{
+    grid_volume::is_negative(grid_volume::signed(a, b, c, d))
+}
+
+// Whether what stands here lies in the closed piece: each corner in turn is replaced by it. In line along a cell's links, what depends on the piece alone is
+// computed once.
+#[inline(always)]
 fn lies_in(q: Asking, place: Place) -> bool
     ensures { result ≡ lies_in (standing q) (point_of place) }
 {
-    let qa = q.a;
-    let qb = q.b;
-    let qc = q.c;
-    let qd = q.d;
-    let a = qa.place;
-    let b = qb.place;
-    let c = qc.place;
-    let d = qd.place;
-    if grid_volume::is_negative(grid_volume::signed(place, b, c, d)) {
-        return false;
-    }
-    if grid_volume::is_negative(grid_volume::signed(a, place, c, d)) {
-        return false;
-    }
-    if grid_volume::is_negative(grid_volume::signed(a, b, place, d)) {
-        return false;
-    }
-    !grid_volume::is_negative(grid_volume::signed(a, b, c, place))
+    let a = q.a.place;
+    let b = q.b.place;
+    let c = q.c.place;
+    let d = q.d.place;
+    !left_handed(place, b, c, d)
+        && !left_handed(a, place, c, d)
+        && !left_handed(a, b, place, d)
+        && !left_handed(a, b, c, place)
 }
 
-fn is_within(low: Place, high: Place, p: Place) -> bool
-    ensures { result ≡ is_within low high p }
+fn is_within(space: PieceBox, p: Place) -> bool
+    ensures { result ≡ is_within space.low space.high p }
 {
-    if p.x < low.x {
-        return false;
-    }
-    if high.x < p.x {
-        return false;
-    }
-    if p.y < low.y {
-        return false;
-    }
-    if high.y < p.y {
-        return false;
-    }
-    if p.z < low.z {
-        return false;
-    }
-    p.z <= high.z
+    space.low.x <= p.x
+        && p.x <= space.high.x
+        && space.low.y <= p.y
+        && p.y <= space.high.y
+        && space.low.z <= p.z
+        && p.z <= space.high.z
 }
 
 // Whether vertex u hangs on the piece, wherever it stands.
-fn hangs<'a>(l: Layout, base: &'a [u8], grown: &'a [u8], q: Asking, u: u32) -> bool
-    ensures { result ≡ hangs_among q u (vertex_in l base.now grown.now u).place }
+fn hangs(mesh: &Mesh, q: Asking, u: u32) -> bool
+    ensures { result ≡ hangs_among q u (vertex_read mesh.now u).place }
 {
-    if is_corner(q, u) {
-        return false;
-    }
-    lies_in(q, stored_entries::place_in(l, base, grown, u as usize))
+    !is_corner(q, u) && lies_in(q, mesh.place(u as usize))
 }
 
 // Whether vertex u is one of the first so many, stands in the box and hangs on the piece.
-fn hangs_below<'a>(
-    l: Layout,
-    base: &'a [u8],
-    grown: &'a [u8],
-    count: u32,
-    q: Asking,
-    low: Place,
-    high: Place,
-    u: usize,
-) -> bool
-    ensures { result ≡ hangs_below (vertex_in l base.now grown.now) count q low high u }
+fn hangs_below(mesh: &Mesh, count: u32, q: Asking, space: PieceBox, u: usize) -> bool
+    ensures { result ≡ hangs_below (vertex_read mesh.now) count q space.low space.high u }
 {
     if count as usize <= u {
         return false;
@@ -244,139 +206,95 @@ fn hangs_below<'a>(
     if is_corner(q, u as u32) {
         return false;
     }
-    let place = stored_entries::place_in(l, base, grown, u);
-    if !is_within(low, high, place) {
-        return false;
-    }
-    lies_in(q, place)
+    let place = mesh.place(u);
+    is_within(space, place) && lies_in(q, place)
 }
 
 // Of the first so many vertices, all are asked.
-fn any_vertex<'a>(l: Layout, base: &'a [u8], grown: &'a [u8], count: u32, q: Asking) -> bool
-    ensures { result ≡ any_below count (λ u. hangs_among q u (vertex_in l base.now grown.now u).place) }
+fn any_vertex(mesh: &Mesh, count: u32, q: Asking) -> bool
+    ensures { result ≡ any_below count (λ u. hangs_among q u (vertex_read mesh.now u).place) }
 {
-    let mut u: u32 = 0;
-    while u < count {
-        if hangs(l, base, grown, q, u) {
+    for u in 0..count {
+        if hangs(mesh, q, u) {
             return true;
         }
-        u += 1;
     }
     false
 }
 
 // Those in one cell.
-fn any_in_cell<'a>(
-    l: Layout,
-    base: &'a [u8],
-    grown: &'a [u8],
-    heads: &'a [u16],
-    nexts: &'a [u16],
+fn any_in_cell(
+    mesh: &Mesh,
+    links: &Links,
     count: u32,
     q: Asking,
-    low: Place,
-    high: Place,
+    space: PieceBox,
     x: u32,
     y: u32,
     z: u32,
 ) -> bool
-    ensures { result ≡ in_cell heads.now nexts.now (hangs_below (vertex_in l base.now grown.now) count q low high) x y z }
+    ensures { result ≡ in_cell links.now.heads.now links.now.nexts.now (hangs_below (vertex_read mesh.now) count q space.low space.high) x y z }
 {
-    let mut to = chains::first(heads, cell_number(x, y, z));
-    while 0 < to {
-        let u = to - 1;
-        if hangs_below(l, base, grown, count, q, low, high, u) {
-            return true;
-        }
-        to = chains::link(nexts, u);
-    }
-    false
+    links.any(
+        links.first(cell_number(x, y, z)),
+        |u| hangs_below(mesh, count, q, space, u),
+    )
 }
 
 // Those in a row of cells, in a layer and in a block.
-fn any_in_row<'a>(
-    l: Layout,
-    base: &'a [u8],
-    grown: &'a [u8],
-    heads: &'a [u16],
-    nexts: &'a [u16],
+fn any_in_row(
+    mesh: &Mesh,
+    links: &Links,
     count: u32,
     q: Asking,
-    low: Place,
-    high: Place,
-    from: Slabs,
-    to: Slabs,
+    space: PieceBox,
+    block: Block,
     y: u32,
     z: u32,
 ) -> bool
-    ensures { result ≡ in_row heads.now nexts.now (hangs_below (vertex_in l base.now grown.now) count q low high) from to y z }
+    ensures { result ≡ in_row links.now.heads.now links.now.nexts.now (hangs_below (vertex_read mesh.now) count q space.low space.high) block.from block.to y z }
 {
-    let end = to.x as usize;
-    let mut x = from.x as usize;
-    while x <= end {
-        if any_in_cell(
-            l, base, grown, heads, nexts, count, q, low, high, x as u32, y, z,
-        ) {
+    for x in block.from.x..=block.to.x {
+        if any_in_cell(mesh, links, count, q, space, x, y, z) {
             return true;
         }
-        x += 1;
     }
     false
 }
 
-fn any_in_layer<'a>(
-    l: Layout,
-    base: &'a [u8],
-    grown: &'a [u8],
-    heads: &'a [u16],
-    nexts: &'a [u16],
+fn any_in_layer(
+    mesh: &Mesh,
+    links: &Links,
     count: u32,
     q: Asking,
-    low: Place,
-    high: Place,
-    from: Slabs,
-    to: Slabs,
+    space: PieceBox,
+    block: Block,
     z: u32,
 ) -> bool
-    ensures { result ≡ in_layer heads.now nexts.now (hangs_below (vertex_in l base.now grown.now) count q low high) from to z }
+    ensures { result ≡ in_layer links.now.heads.now links.now.nexts.now (hangs_below (vertex_read mesh.now) count q space.low space.high) block.from block.to z }
 {
-    let end = to.y as usize;
-    let mut y = from.y as usize;
-    while y <= end {
-        if any_in_row(
-            l, base, grown, heads, nexts, count, q, low, high, from, to, y as u32, z,
-        ) {
+    for y in block.from.y..=block.to.y {
+        if any_in_row(mesh, links, count, q, space, block, y, z) {
             return true;
         }
-        y += 1;
     }
     false
 }
 
-fn any_in_block<'a>(
-    l: Layout,
-    base: &'a [u8],
-    grown: &'a [u8],
-    heads: &'a [u16],
-    nexts: &'a [u16],
+fn any_in_block(
+    mesh: &Mesh,
+    links: &Links,
     count: u32,
     q: Asking,
-    low: Place,
-    high: Place,
-    from: Slabs,
-    to: Slabs,
+    space: PieceBox,
+    block: Block,
 ) -> bool
-    ensures { result ≡ in_block heads.now nexts.now (hangs_below (vertex_in l base.now grown.now) count q low high) from to }
+    ensures { result ≡ in_block links.now.heads.now links.now.nexts.now (hangs_below (vertex_read mesh.now) count q space.low space.high) block.from block.to }
 {
-    let end = to.z as usize;
-    let mut z = from.z as usize;
-    while z <= end {
-        if any_in_layer(
-            l, base, grown, heads, nexts, count, q, low, high, from, to, z as u32,
-        ) {
+    for z in block.from.z..=block.to.z {
+        if any_in_layer(mesh, links, count, q, space, block, z) {
             return true;
         }
-        z += 1;
     }
     false
 }
@@ -385,98 +303,57 @@ fn any_in_block<'a>(
 fn side(from: u32, to: u32) -> u64
     ensures { result ≤ 4294967296 }
 {
-    if to < from {
-        return 0;
-    }
-    (to - from) as u64 + 1
+    (u64::from(to) + 1).saturating_sub(u64::from(from))
 }
 
 // Whether a block has more cells than so many.
-fn too_many(count: u32, from: Slabs, to: Slabs) -> bool {
-    let most = count as u64;
-    let row = side(from.x, to.x);
+fn too_many(count: u32, block: Block) -> bool {
+    let most = u64::from(count);
+    let row = side(block.from.x, block.to.x);
     if most < row {
         return true;
     }
-    let layer = row * side(from.y, to.y);
-    if most < layer {
-        return true;
-    }
-    most < layer * side(from.z, to.z)
+    let layer = row * side(block.from.y, block.to.y);
+    most < layer || most < layer * side(block.from.z, block.to.z)
 }
 
 // Record n: where it is right-handed, what lies in it lies in its box, and the cells that the box meets are asked, unless there are more of them than vertices.
-fn record_hangs<'a>(
-    l: Layout,
-    base: &'a [u8],
-    grown: &'a [u8],
-    heads: &'a [u16],
-    nexts: &'a [u16],
-    count: u32,
-    width: u16,
-    n: usize,
-) -> bool
-    ensures { 0 < length heads.now → Chain (λ v. place_key (length heads.now) width (vertex_in l base.now grown.now v).place) count heads.now nexts.now → result ≡ any_below count (hangs_on (vertex_in l base.now grown.now) (record_in l base.now grown.now n).piece) }
+fn record_hangs(mesh: &Mesh, links: &Links, count: u32, width: u16, n: usize) -> bool
+    ensures { 0 < length links.now.heads.now → Chain (λ v. place_key (length links.now.heads.now) width (vertex_read mesh.now v).place) count links.now.heads.now links.now.nexts.now → result ≡ any_below count (hangs_on (vertex_read mesh.now) (record_read mesh.now n).piece) }
 {
-    let q = asking_of(l, base, grown, n);
-    let qa = q.a;
-    let qb = q.b;
-    let qc = q.c;
-    let qd = q.d;
-    let a = qa.place;
-    let b = qb.place;
-    let c = qc.place;
-    let d = qd.place;
-    let signed = grid_volume::signed(a, b, c, d);
-    if grid_volume::is_flat(signed) {
-        return any_vertex(l, base, grown, count, q);
+    let q = asking_of(mesh, n);
+    let signed = grid_volume::signed(q.a.place, q.b.place, q.c.place, q.d.place);
+    if grid_volume::is_flat(signed) || grid_volume::is_negative(signed) {
+        return any_vertex(mesh, count, q);
     }
-    if grid_volume::is_negative(signed) {
-        return any_vertex(l, base, grown, count, q);
+    let space = box_of(q);
+    let block = Block {
+        from: slabs_of(width, space.low),
+        to: slabs_of(width, space.high),
+    };
+    if too_many(count, block) {
+        return any_vertex(mesh, count, q);
     }
-    let low = lower(lower(a, b), lower(c, d));
-    let high = upper(upper(a, b), upper(c, d));
-    let from = slabs_of(width, low);
-    let to = slabs_of(width, high);
-    if too_many(count, from, to) {
-        return any_vertex(l, base, grown, count, q);
-    }
-    any_in_block(l, base, grown, heads, nexts, count, q, low, high, from, to)
-}
-
-// How far it is from one coordinate to another.
-fn extent(from: u16, to: u16) -> u16 {
-    if to < from {
-        return 0;
-    }
-    to - from
+    any_in_block(mesh, links, count, q, space, block)
 }
 
 // How far record n reaches along the axis on which it reaches farthest.
-fn reach<'a>(l: Layout, base: &'a [u8], grown: &'a [u8], n: usize) -> u16 {
-    let q = asking_of(l, base, grown, n);
-    let qa = q.a;
-    let qb = q.b;
-    let qc = q.c;
-    let qd = q.d;
-    let low = lower(lower(qa.place, qb.place), lower(qc.place, qd.place));
-    let high = upper(upper(qa.place, qb.place), upper(qc.place, qd.place));
-    greatest(
-        greatest(extent(low.x, high.x), extent(low.y, high.y)),
-        extent(low.z, high.z),
-    )
+fn reach(mesh: &Mesh, n: usize) -> u16 {
+    let space = box_of(asking_of(mesh, n));
+    let x = space.high.x.saturating_sub(space.low.x);
+    let y = space.high.y.saturating_sub(space.low.y);
+    let z = space.high.z.saturating_sub(space.low.z);
+    x.max(y).max(z)
 }
 
 // Cells as wide as the pieces reach: the mean of some of them, taken at equal steps. A piece that stands far from the others does not change it.
-fn width_for<'a>(l: Layout, base: &'a [u8], grown: &'a [u8], records: u32) -> u16 {
+fn width_for(mesh: &Mesh, records: u32) -> u16 {
     let step = (records / SAMPLES) as usize + 1;
-    let mut n: usize = 0;
     let mut seen: u64 = 0;
     let mut sum: u64 = 0;
-    while n < records as usize {
-        sum += reach(l, base, grown, n) as u64;
+    for n in (0..records as usize).step_by(step) {
+        sum += u64::from(reach(mesh, n));
         seen += 1;
-        n += step;
     }
     if seen == 0 {
         return 0;
@@ -484,54 +361,38 @@ fn width_for<'a>(l: Layout, base: &'a [u8], grown: &'a [u8], records: u32) -> u1
     (sum / seen) as u16
 }
 
-fn any_record<'a>(
-    l: Layout,
-    base: &'a [u8],
-    grown: &'a [u8],
-    heads: &'a [u16],
-    nexts: &'a [u16],
-    vertices: u32,
-    records: usize,
-    width: u16,
-) -> bool
-    ensures { 0 < length heads.now → Chain (λ v. place_key (length heads.now) width (vertex_in l base.now grown.now v).place) vertices heads.now nexts.now → result ≡ any_below records (λ n. any_below vertices (hangs_on (vertex_in l base.now grown.now) (record_in l base.now grown.now n).piece)) }
+fn any_record(mesh: &Mesh, links: &Links, vertices: u32, records: usize, width: u16) -> bool
+    ensures { 0 < length links.now.heads.now → Chain (λ v. place_key (length links.now.heads.now) width (vertex_read mesh.now v).place) vertices links.now.heads.now links.now.nexts.now → result ≡ any_below records (λ n. any_below vertices (hangs_on (vertex_read mesh.now) (record_read mesh.now n).piece)) }
 {
-    let mut n: usize = 0;
-    while n < records {
-        if record_hangs(l, base, grown, heads, nexts, vertices, width, n) {
+    for n in 0..records {
+        if record_hangs(mesh, links, vertices, width, n) {
             return true;
         }
-        n += 1;
     }
     false
 }
 
 // Refusal 23. Lists that are too short for the vertices are answered at once.
-pub fn hanging_vertices<'a>(
-    h: Header,
-    l: Layout,
-    base: &'a [u8],
-    grown: &'a [u8],
-    heads: &mut [u16],
-    nexts: &mut [u16],
-) -> bool
-    ensures { result ≡ (short heads.old nexts.old h.base_vertices || hanging_vertices (tables h l base.now grown.now)) }
+pub fn hanging_vertices(mesh: &Mesh, links: &mut Links) -> bool
+    ensures { result ≡ (short links.old.heads.now links.old.nexts.now mesh.now.header.base_vertices || hanging_vertices (tables_read mesh.now)) }
 {
-    let count = h.base_vertices as usize;
-    if chains::is_short(heads, nexts, count) {
+    let count = mesh.header.base_vertices as usize;
+    // The same two lists in a struct of its own: where they stand is then known after each write to them, and not read again.
+    let links = &mut Links {
+        heads: links.heads,
+        nexts: links.nexts,
+    };
+    if links.is_short(count) {
         return true;
     }
-    chains::clear(heads);
-    let width = width_for(l, base, grown, h.base_records);
-    link_all(l, base, grown, count, width, heads, nexts);
+    links.clear();
+    let width = width_for(mesh, mesh.header.base_records);
+    link_all(mesh, count, width, links);
     any_record(
-        l,
-        base,
-        grown,
-        heads,
-        nexts,
-        h.base_vertices,
-        h.base_records as usize,
+        mesh,
+        links,
+        mesh.header.base_vertices,
+        mesh.header.base_records as usize,
         width,
     )
 }

@@ -1,12 +1,14 @@
 // Refusal 5: base records that are no pieces; refusal 22: those that are left-handed.
 #![tactic(auto)]
 
-ghost use Rattle.std.specs.Prelude.{◌≡◌, cond, eqb};
-ghost use Rattle.mesh_tables.specs.Tables.{tables};
+ghost use Rattle.std.specs.Prelude.{◌≡◌};
+ghost use Rattle.mesh_tables.specs.Tables.{tables_read};
 ghost use Rattle.check_refusals.specs.Refusals.{equal_corners, corner_not_in_base, bad_corners};
+ghost use Rattle.check_refusals.specs.Outcomes.{outcome_number};
 ghost use Rattle.check_pieces.specs.Pieces.{record_number, pieces_number};
 
-use stored::{Header, Layout};
+use check_refusals::Refusal;
+use stored_entries::Mesh;
 
 // The ends of the six edges, one edge after the other.
 fn equal_corners(corners: [u32; 4]) -> bool
@@ -37,12 +39,10 @@ fn equal_corners(corners: [u32; 4]) -> bool
 fn corner_not_in_base(count: u32, corners: [u32; 4]) -> bool
     ensures { result ≡ corner_not_in_base count corners }
 {
-    let mut k: usize = 0;
-    while k < 4 {
+    for k in 0..4usize {
         if count <= corners[k] {
             return true;
         }
-        k += 1;
     }
     false
 }
@@ -57,54 +57,43 @@ pub fn bad_corners(count: u32, corners: [u32; 4]) -> bool
     corner_not_in_base(count, corners)
 }
 
-// Refusals 5 and 22 of record n, tried in this order, or 0: both look at the signed determinant.
-fn record_number<'a>(h: Header, l: Layout, base: &'a [u8], grown: &'a [u8], n: usize) -> u64
-    ensures { result ≡ record_number (tables h l base.now grown.now) n }
+// Refusals 5 and 22 of record n, tried in this order: both look at the signed determinant.
+fn judged_record(mesh: &Mesh, n: usize) -> Result<(), Refusal>
+    ensures { outcome_number result ≡ record_number (tables_read mesh.now) n }
 {
-    let corners = stored_entries::corners_in(l, base, grown, n);
-    if bad_corners(h.base_vertices, corners) {
-        return 5;
+    let corners = mesh.corners(n);
+    if bad_corners(mesh.header.base_vertices, corners) {
+        return Err(Refusal::BadBaseRecords);
     }
-    let signed = mesh_tables::signed_between(l, base, grown, corners);
+    let signed = mesh_tables::signed_between(mesh, corners);
     if grid_volume::is_flat(signed) {
-        return 5;
+        return Err(Refusal::BadBaseRecords);
     }
-    if stored_entries::generation_in(l, base, grown, n) != 0 {
-        return 5;
+    if mesh.generation(n) != 0 {
+        return Err(Refusal::BadBaseRecords);
     }
-    if stored_entries::flag_in(l, base, grown, n) != 0 {
-        return 5;
+    if mesh.flag(n) != 0 {
+        return Err(Refusal::BadBaseRecords);
     }
     if grid_volume::is_negative(signed) {
-        return 22;
+        return Err(Refusal::LeftHandedRecords);
     }
-    0
+    Ok(())
 }
 
-// The number found, or where it is 0 the one before.
-fn or_before(found: u64, before: u64) -> u64
-    ensures { result ≡ cond (eqb found 0) before found }
+// Refusals 5 and 22, tried in this order: a bad record anywhere is 5.
+pub fn judged_pieces(mesh: &Mesh) -> Result<(), Refusal>
+    ensures { outcome_number result ≡ pieces_number (tables_read mesh.now) }
 {
-    if found == 0 {
-        return before;
+    let mut found = Ok(());
+    for n in 0..mesh.header.base_records as usize {
+        match judged_record(mesh, n) {
+            Ok(()) => {}
+            Err(refusal) => match refusal {
+                Refusal::BadBaseRecords => return Err(refusal),
+                _ => found = Err(refusal),
+            },
+        }
     }
     found
-}
-
-// Refusals 5 and 22, tried in this order, or 0: a bad record anywhere is 5.
-pub fn pieces_number<'a>(h: Header, l: Layout, base: &'a [u8], grown: &'a [u8]) -> u64
-    ensures { result ≡ pieces_number (tables h l base.now grown.now) }
-{
-    let count = h.base_records as usize;
-    let mut left: u64 = 0;
-    let mut n: usize = 0;
-    while n < count {
-        let found = record_number(h, l, base, grown, n);
-        if found == 5 {
-            return 5;
-        }
-        left = or_before(found, left);
-        n += 1;
-    }
-    left
 }

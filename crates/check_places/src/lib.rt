@@ -3,15 +3,18 @@
 #![tactic(auto)]
 
 ghost use Rattle.std.specs.Prelude.{◌≡◌, ◌||◌, length};
-ghost use Rattle.laws.specs.Links.{links_of, pushed, short, Roomy, Empty};
+ghost use Rattle.laws.specs.Links.{pushed, short, Roomy, Empty};
+ghost use Rattle.chains.specs.Held.{links_in, SameSlices};
 ghost use Rattle.grid.specs.Places.{same_place};
-ghost use Rattle.stored.specs.Layout.{vertex_in};
-ghost use Rattle.mesh_tables.specs.Tables.{tables};
+ghost use Rattle.mesh_tables.specs.Tables.{tables_read};
 ghost use Rattle.check_refusals.specs.Refusals.{bad_base_vertex, bad_made_vertex, pair_twice, bad_vertex, bad_vertices};
 ghost use Rattle.check_places.specs.Kept.{place_key, vertex_key, VerticesKept, place_along};
+ghost use Rattle.stored_entries.specs.Mesh.{vertex_read};
 
+use chains::Links;
 use grid::Place;
-use stored::{Header, Layout, Vertex};
+use stored::Vertex;
+use stored_entries::Mesh;
 
 // Places' keys are taken modulo a prime, so that places that are far apart on the grid have keys of their own too.
 const PRIME: usize = 8191;
@@ -19,21 +22,13 @@ const PRIME: usize = 8191;
 fn bad_base_vertex(v: Vertex) -> bool
     ensures { result ≡ bad_base_vertex v }
 {
-    let place = v.place;
-    if !grid::on_grid(place) {
-        return true;
-    }
-    if v.p != stored::NONE {
-        return true;
-    }
-    v.q != stored::NONE
+    !grid::on_grid(v.place) || v.p != stored::NONE || v.q != stored::NONE
 }
 
-fn stands_at<'a>(l: Layout, base: &'a [u8], grown: &'a [u8], u: usize, place: Place) -> bool
-    ensures { result ≡ same_place (vertex_in l base.now grown.now u).place place }
+fn stands_at(mesh: &Mesh, u: usize, place: Place) -> bool
+    ensures { result ≡ same_place (vertex_read mesh.now u).place place }
 {
-    let there = stored_entries::place_in(l, base, grown, u);
-    grid::same_place(there, place)
+    mesh.place(u) == place
 }
 
 // The key of a place, in steps of the grid, one of so many. The factors differ, so that a step along each axis leads to another key.
@@ -47,159 +42,83 @@ fn place_key(keys: usize, place: Place) -> usize
 }
 
 // Whether a vertex along the links stands at this place.
-fn place_along<'a>(
-    l: Layout,
-    base: &'a [u8],
-    grown: &'a [u8],
-    heads: &'a [u16],
-    nexts: &'a [u16],
-    place: Place,
-) -> bool
-    ensures { result ≡ place_along (vertex_in l base.now grown.now) heads.now nexts.now place }
+fn place_along(mesh: &Mesh, links: &Links, place: Place) -> bool
+    ensures { result ≡ place_along (vertex_read mesh.now) links.now.heads.now links.now.nexts.now place }
 {
-    let mut to = chains::at(heads, place_key(heads.len(), place));
-    while 0 < to {
-        let u = to - 1;
-        if stands_at(l, base, grown, u, place) {
-            return true;
-        }
-        to = chains::link(nexts, u);
-    }
-    false
+    links.any(
+        links.head(place_key(links.keys(), place)),
+        |u| stands_at(mesh, u, place),
+    )
 }
 
-fn bad_made_vertex<'a>(l: Layout, base: &'a [u8], grown: &'a [u8], v: usize) -> bool
-    ensures { result ≡ bad_made_vertex (vertex_in l base.now grown.now) v }
+fn bad_made_vertex(mesh: &Mesh, v: usize) -> bool
+    ensures { result ≡ bad_made_vertex (vertex_read mesh.now) v }
 {
-    let vertex = stored_entries::vertex_in(l, base, grown, v);
+    let vertex = mesh.vertex(v);
     let p = vertex.p as usize;
     let q = vertex.q as usize;
-    if q <= p {
-        return true;
-    }
-    if v <= q {
-        return true;
-    }
-    let place = vertex.place;
-    let one = stored_entries::place_in(l, base, grown, p);
-    let other = stored_entries::place_in(l, base, grown, q);
-    !grid::is_halfway(place, one, other)
+    q <= p || v <= q || !grid::is_halfway(vertex.place, mesh.place(p), mesh.place(q))
 }
 
 // Whether a vertex before v has v's parents.
-fn pair_twice<'a>(
-    h: Header,
-    l: Layout,
-    base: &'a [u8],
-    grown: &'a [u8],
-    heads: &'a [u16],
-    nexts: &'a [u16],
-    v: usize,
-) -> bool
-    ensures { VerticesKept (tables h l base.now grown.now) v heads.now nexts.now → result ≡ pair_twice (tables h l base.now grown.now) v }
+fn pair_twice(mesh: &Mesh, links: &Links, v: usize) -> bool
+    ensures { VerticesKept (tables_read mesh.now) v links.now.heads.now links.now.nexts.now → result ≡ pair_twice (tables_read mesh.now) v }
 {
-    let ends = stored_entries::parents_in(l, base, grown, v);
-    let head = mesh_parents::head_of(heads, ends);
-    mesh_parents::any_from(h, l, base, grown, nexts, v, ends, head)
+    let ends = mesh.parents(v);
+    let head = mesh_parents::head_of(links, ends);
+    mesh_parents::any_from(mesh, links, v, ends, head)
 }
 
 // Vertex v, where those before it are linked.
-fn bad_vertex<'a>(
-    h: Header,
-    l: Layout,
-    base: &'a [u8],
-    grown: &'a [u8],
-    heads: &'a [u16],
-    nexts: &'a [u16],
-    v: usize,
-) -> bool
-    ensures { VerticesKept (tables h l base.now grown.now) v heads.now nexts.now → result ≡ bad_vertex (tables h l base.now grown.now) v }
+fn bad_vertex(mesh: &Mesh, links: &Links, v: usize) -> bool
+    ensures { VerticesKept (tables_read mesh.now) v links.now.heads.now links.now.nexts.now → result ≡ bad_vertex (tables_read mesh.now) v }
 {
-    if v < h.base_vertices as usize {
-        let vertex = stored_entries::vertex_in(l, base, grown, v);
-        if bad_base_vertex(vertex) {
-            return true;
-        }
-        let place = vertex.place;
-        return place_along(l, base, grown, heads, nexts, place);
+    if v < mesh.header.base_vertices as usize {
+        let vertex = mesh.vertex(v);
+        bad_base_vertex(vertex) || place_along(mesh, links, vertex.place)
+    } else {
+        bad_made_vertex(mesh, v) || pair_twice(mesh, links, v)
     }
-    if bad_made_vertex(l, base, grown, v) {
-        return true;
-    }
-    pair_twice(h, l, base, grown, heads, nexts, v)
 }
 
 // The key of vertex v: that of its place, and of its parents if it is made.
-fn vertex_key<'a>(
-    h: Header,
-    l: Layout,
-    base: &'a [u8],
-    grown: &'a [u8],
-    keys: usize,
-    v: usize,
-) -> usize
-    ensures { result ≡ vertex_key keys (tables h l base.now grown.now) v }
+fn vertex_key(mesh: &Mesh, keys: usize, v: usize) -> usize
+    ensures { result ≡ vertex_key keys (tables_read mesh.now) v }
 {
-    if v < h.base_vertices as usize {
-        return place_key(keys, stored_entries::place_in(l, base, grown, v));
+    if v < mesh.header.base_vertices as usize {
+        place_key(keys, mesh.place(v))
+    } else {
+        mesh_parents::pair_key(keys, mesh.parents(v))
     }
-    mesh_parents::pair_key(keys, stored_entries::parents_in(l, base, grown, v))
 }
 
 // Vertex v is put before the others with its key.
-fn link_vertex<'a>(
-    h: Header,
-    l: Layout,
-    base: &'a [u8],
-    grown: &'a [u8],
-    heads: &mut [u16],
-    nexts: &mut [u16],
-    v: usize,
-)
-    ensures heads_after { heads.new ≡ (pushed (links_of heads.old nexts.old) (vertex_key (length heads.old) (tables h l base.now grown.now) v) v).heads }
-    ensures nexts_after { nexts.new ≡ (pushed (links_of heads.old nexts.old) (vertex_key (length heads.old) (tables h l base.now grown.now) v) v).nexts }
+fn link_vertex(mesh: &Mesh, links: &mut Links, v: usize)
+    ensures linked { links_in links.new ≡ pushed (links_in links.old) (vertex_key (length links.old.heads.now) (tables_read mesh.now) v) v }
+    ensures same { SameSlices links.old links.new }
 {
-    let key = vertex_key(h, l, base, grown, heads.len(), v);
-    chains::push(heads, nexts, key, v);
+    let key = vertex_key(mesh, links.keys(), v);
+    links.push(key, v);
 }
 
 // Each vertex is judged by those before it, and then linked.
-fn any_bad<'a>(
-    h: Header,
-    l: Layout,
-    base: &'a [u8],
-    grown: &'a [u8],
-    heads: &mut [u16],
-    nexts: &mut [u16],
-) -> bool
-    requires { Roomy heads.old nexts.old h.vertices }
-    ensures { Empty heads.old → result ≡ bad_vertices (tables h l base.now grown.now) }
+fn any_bad(mesh: &Mesh, links: &mut Links) -> bool
+    requires { Roomy links.old.heads.now links.old.nexts.now mesh.now.header.vertices }
+    ensures { Empty links.old.heads.now → result ≡ bad_vertices (tables_read mesh.now) }
 {
-    let count = h.vertices as usize;
-    let mut v: usize = 0;
-    while v < count {
-        if bad_vertex(h, l, base, grown, heads, nexts, v) {
+    let count = mesh.header.vertices as usize;
+    for v in 0..count {
+        if bad_vertex(mesh, links, v) {
             return true;
         }
-        link_vertex(h, l, base, grown, heads, nexts, v);
-        v += 1;
+        link_vertex(mesh, links, v);
     }
     false
 }
 
 // The links are lent, and the heads are to be lent as they were made; lists that are too short for them refuse.
-pub fn bad_vertices<'a>(
-    h: Header,
-    l: Layout,
-    base: &'a [u8],
-    grown: &'a [u8],
-    heads: &mut [u16],
-    nexts: &mut [u16],
-) -> bool
-    ensures { Empty heads.old → result ≡ (short heads.old nexts.old h.vertices || bad_vertices (tables h l base.now grown.now)) }
+pub fn bad_vertices(mesh: &Mesh, links: &mut Links) -> bool
+    ensures { Empty links.old.heads.now → result ≡ (short links.old.heads.now links.old.nexts.now mesh.now.header.vertices || bad_vertices (tables_read mesh.now)) }
 {
-    if chains::is_short(heads, nexts, h.vertices as usize) {
-        return true;
-    }
-    any_bad(h, l, base, grown, heads, nexts)
+    links.is_short(mesh.header.vertices as usize) || any_bad(mesh, links)
 }

@@ -4,3 +4,4 @@ pub mod Check
 pub mod Rows
 pub mod Bounded
 pub mod Lent
+pub mod Outcomes

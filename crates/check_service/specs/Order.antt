@@ -11,8 +11,10 @@ use Rattle.stored.specs.Layout.{Stored, header_of, right_length, right_mark}
 use Rattle.check_hanging.specs.Hanging.{found_of, reported, found_reported}
 use Rattle.mesh_tables.specs.Tables.{Tables, tables_of}
 use Rattle.check_refusals.specs.declared.Report.{Report}
+use Rattle.check_refusals.specs.declared.Refusal.{Refusal}
 use Rattle.check_refusals.specs.Refusals.{wrong_length, wrong_mark, wrong_counts, bad_vertices, bad_base_records, left_handed_records, bad_base_marks, bad_base_faces, unused_vertices, hanging_vertices, bad_cuts}
 use Rattle.check_refusals.specs.Check.{base_rows, cut_rows, table_rows, rows, check_number, refused_with, report_of, check_of}
+use Rattle.check_refusals.specs.Outcomes.{refusal_number, refusal_report, some_number, plain_report}
 use Rattle.check_service.specs.Verdict.{without_figures}
 
 -- Refusals 4, 5, 22, 6, 7, 8 and 23, tried in this order, or 0.
@@ -32,10 +34,24 @@ module _ (m : Tables) where
   unfolding cuts_report report_of
   cuts_reported = rw (found_reported m) (sym (in_turn_lem (λ n. without_figures (report_of m n)) (cut_rows m)))
 
+  base_not_10 : eqb (base_number m) 10 ≡ false
+  unfolding base_number
+  base_not_10 = not-true (eqb (first_broken (base_rows m)) 10) (given_passes (λ k. not (eqb k 10)) (base_rows m) refl)
+
   -- A refusal of the base is neither 0 nor 10, which alone are reported with more than their number.
   base_reported : eqb (base_number m) 0 ≡ false → refused_with (base_number m) ≡ without_figures (report_of m (base_number m))
-  unfolding report_of base_number
-  base_reported e = rw (e, not-true (eqb (first_broken (base_rows m)) 10) (given_passes (λ k. not (eqb k 10)) (base_rows m) refl))
+  unfolding report_of
+  base_reported e = rw (e, base_not_10)
+
+  -- Why the base is refused is what is reported.
+  pub base_refused : (r : Refusal) → refusal_number r ≡ base_number m → refusal_report r ≡ judged_report m
+  unfolding judged_report
+  base_refused r is = plain_report r (rw is base_not_10) ∙ rw (← is, some_number r)
+
+  -- Where the base is not refused, what the cuts have is.
+  pub base_passed : 0 ≡ base_number m → cuts_report m ≡ judged_report m
+  unfolding judged_report
+  base_passed is = rw (← is)
 
   judged_reported : judged_report m ≡ without_figures (report_of m (first_broken (table_rows m)))
   unfolding judged_report table_rows base_number

@@ -4,177 +4,149 @@
 ghost use Rattle.std.specs.Prelude.{◌≡◌, ◌^◌, ◌<◌, length};
 ghost use Rattle.laws.specs.Links.{Empty};
 ghost use Rattle.stored.specs.Layout.{limits, stored1};
-ghost use Rattle.mesh_tables.specs.Tables.{tables};
+ghost use Rattle.mesh_tables.specs.Tables.{tables_read};
 ghost use Rattle.check_refusals.specs.Refusals.{wrong_counts};
-ghost use Rattle.check_refusals.specs.Check.{refused_with, sixfold, accepted, CheckOutcomeIs};
+ghost use Rattle.check_refusals.specs.Check.{sixfold, accepted, CheckOutcomeIs};
+ghost use Rattle.check_refusals.specs.Outcomes.{outcome_number, outcome_report};
 ghost use Rattle.check_refusals.specs.Bounded.{Bounded};
 ghost use Rattle.check_refusals.specs.Lent.{LinksFit, LentToBase, LentToCuts};
-ghost use Rattle.check_hanging.specs.Hanging.{found_of, none_broken, reported};
+ghost use Rattle.check_hanging.specs.Hanging.{found_of, reported};
 ghost use Rattle.check_service.specs.Verdict.{VerdictIs};
 ghost use Rattle.check_service.specs.Order.{base_number, cuts_report, judged_report};
 
-use check_hanging::Found;
-use check_refusals::Report;
-use stored::{Header, Layout, Limits};
-
-fn refused(number: u64) -> Report
-    ensures { result ≡ refused_with number }
-{
-    Report {
-        number: number,
-        leaves: 0,
-        deepest: 0,
-        sixfold: 0,
-        record: 0,
-        edge: 0,
-    }
-}
-
-// What there is to report before the figures where no rule is broken.
-fn none_broken() -> Report
-    ensures { result ≡ none_broken }
-{
-    refused(0)
-}
+use chains::Links;
+use check_refusals::{Refusal, Report};
+use stored::{Header, Limits};
+use stored_entries::Mesh;
 
 // Refusal 3.
 fn wrong_counts(most: Limits, h: Header) -> bool
     ensures { result ≡ wrong_counts most h }
 {
-    if most.vertices < h.vertices {
-        return true;
-    }
-    if most.records < h.records {
-        return true;
-    }
-    if most.base_records < h.base_records {
-        return true;
-    }
-    if h.base_vertices < 4 {
-        return true;
-    }
-    if h.base_records < 1 {
-        return true;
-    }
-    if h.vertices < h.base_vertices {
-        return true;
-    }
-    h.records < h.base_records
+    most.vertices < h.vertices
+        || most.records < h.records
+        || most.base_records < h.base_records
+        || h.base_vertices < 4
+        || h.base_records < 1
+        || h.vertices < h.base_vertices
+        || h.records < h.base_records
 }
 
-// Refusal 10, or none.
-fn closed<'a>(
-    h: Header,
-    l: Layout,
-    base: &'a [u8],
-    grown: &'a [u8],
-    heads: &mut [u16],
-    links: &mut [u16],
-) -> Report
-    requires { LinksFit (length heads.old) (length links.old) h.vertices }
-    ensures { result ≡ reported (found_of (tables h l base.now grown.now)) }
+// Refusal 10.
+fn closed(mesh: &Mesh, heads: &mut [u16], links: &mut [u16]) -> Result<(), Refusal>
+    requires { LinksFit (length heads.old) (length links.old) mesh.now.header.vertices }
+    ensures { outcome_report result ≡ reported (found_of (tables_read mesh.now)) }
 {
-    let found = check_hanging::first_hanging(h, l, base, grown, heads, links);
-    match found {
-        Found::At(n, e) => Report {
-            number: 10,
-            leaves: 0,
-            deepest: 0,
-            sixfold: 0,
-            record: n as u64,
-            edge: e as u64,
+    match check_hanging::first_hanging(
+        mesh,
+        &mut Links {
+            heads,
+            nexts: links,
         },
-        Found::Nothing => none_broken(),
+    ) {
+        Some(hanging) => Err(Refusal::HangingEdge(hanging.record, hanging.edge)),
+        None => Ok(()),
     }
 }
 
-// Refusals 4, 5, 22, 6, 7, 8 and 23, of the vertices and the base, tried in this order, or 0.
-fn judged_base<'a>(
-    h: Header,
-    l: Layout,
-    base: &'a [u8],
-    grown: &'a [u8],
+// Refusals 4, 5, 22, 6, 7, 8 and 23, of the vertices and the base, tried in this order.
+fn judged_base(
+    mesh: &Mesh,
     heads: &mut [u16],
     face_heads: &mut [u16],
     links: &mut [u16],
     uses: &mut [u16],
-) -> u64
-    requires lent_to_base { LentToBase h (length heads.old) (length face_heads.old) (length links.old) (length uses.old) }
-    requires empty { Empty heads.old }
-    requires empty_2 { Empty face_heads.old }
-    ensures { result ≡ base_number (tables h l base.now grown.now) }
+) -> Result<(), Refusal>
+    requires lent_to_base { LentToBase mesh.now.header (length heads.old) (length face_heads.old) (length links.old) (length uses.old) }
+    requires heads_empty { Empty heads.old }
+    requires face_heads_empty { Empty face_heads.old }
+    ensures { outcome_number result ≡ base_number (tables_read mesh.now) }
 {
-    if check_places::bad_vertices(h, l, base, grown, heads, links) {
-        return 4;
+    if check_places::bad_vertices(
+        mesh,
+        &mut Links {
+            heads,
+            nexts: links,
+        },
+    ) {
+        return Err(Refusal::BadVertices);
     }
-    let found = check_pieces::pieces_number(h, l, base, grown);
-    if found != 0 {
-        return found;
+    check_pieces::judged_pieces(mesh)?;
+    if check_marks::bad_base_marks(mesh) {
+        return Err(Refusal::BadBaseMarks);
     }
-    if check_marks::bad_base_marks(h, l, base, grown) {
-        return 6;
+    if check_faces::bad_base_faces(
+        mesh,
+        &mut Links {
+            heads: face_heads,
+            nexts: links,
+        },
+    ) {
+        return Err(Refusal::BadBaseFaces);
     }
-    if check_faces::bad_base_faces(h, l, base, grown, face_heads, links) {
-        return 7;
+    if check_uses::unused_vertices(mesh, uses) {
+        return Err(Refusal::UnusedVertices);
     }
-    if check_uses::unused_vertices(h, l, base, grown, uses) {
-        return 8;
+    if check_inside::hanging_vertices(
+        mesh,
+        &mut Links {
+            heads,
+            nexts: links,
+        },
+    ) {
+        return Err(Refusal::HangingVertices);
     }
-    if check_inside::hanging_vertices(h, l, base, grown, heads, links) {
-        return 23;
-    }
-    0
+    Ok(())
 }
 
-// Refusals 9 and 10, of the cuts, tried in their order, or none.
-fn judged_cuts<'a>(
-    h: Header,
-    l: Layout,
-    base: &'a [u8],
-    grown: &'a [u8],
+// Refusals 9 and 10, of the cuts, tried in their order.
+fn judged_cuts(
+    mesh: &Mesh,
     heads: &mut [u16],
     links: &mut [u16],
     children: &mut [u16],
     midpoints: &mut [u16],
-) -> Report
-    requires { LentToCuts h (length heads.old) (length links.old) (length children.old) (length midpoints.old) }
-    ensures { result ≡ cuts_report (tables h l base.now grown.now) }
+) -> Result<(), Refusal>
+    requires { LentToCuts mesh.now.header (length heads.old) (length links.old) (length children.old) (length midpoints.old) }
+    ensures { outcome_report result ≡ cuts_report (tables_read mesh.now) }
 {
-    if check_children::bad_cuts(h, l, base, grown, heads, links, children, midpoints) {
-        return refused(9);
+    if check_children::bad_cuts(
+        mesh,
+        &mut Links {
+            heads,
+            nexts: links,
+        },
+        children,
+        midpoints,
+    ) {
+        return Err(Refusal::BadCuts);
     }
-    closed(h, l, base, grown, heads, links)
+    closed(mesh, heads, links)
 }
 
-// Refusals 4 to 10, 22 and 23, or none. Each vertex has one count, of its uses and then of the edges that it halves.
-fn judged_with<'a>(
-    h: Header,
-    l: Layout,
-    base: &'a [u8],
-    grown: &'a [u8],
+// Refusals 4 to 10, 22 and 23. Each vertex has one count, of its uses and then of the edges that it halves.
+fn judged_with(
+    mesh: &Mesh,
     heads: &mut [u16],
     face_heads: &mut [u16],
     links: &mut [u16],
     uses: &mut [u16],
     children: &mut [u16],
-) -> Report
-    requires lent_to_base { LentToBase h (length heads.old) (length face_heads.old) (length links.old) (length uses.old) }
-    requires empty { Empty heads.old }
-    requires empty_2 { Empty face_heads.old }
-    requires lent_to_cuts { LentToCuts h (length heads.old) (length links.old) (length children.old) (length uses.old) }
-    ensures { result ≡ judged_report (tables h l base.now grown.now) }
+) -> Result<(), Refusal>
+    requires lent_to_base { LentToBase mesh.now.header (length heads.old) (length face_heads.old) (length links.old) (length uses.old) }
+    requires heads_empty { Empty heads.old }
+    requires face_heads_empty { Empty face_heads.old }
+    requires lent_to_cuts { LentToCuts mesh.now.header (length heads.old) (length links.old) (length children.old) (length uses.old) }
+    ensures { outcome_report result ≡ judged_report (tables_read mesh.now) }
 {
-    let number = judged_base(h, l, base, grown, heads, face_heads, links, uses);
-    if number != 0 {
-        return refused(number);
-    }
-    judged_cuts(h, l, base, grown, heads, links, children, uses)
+    judged_base(mesh, heads, face_heads, links, uses)?;
+    judged_cuts(mesh, heads, links, children, uses)
 }
 
 // The working memory of all rules is made here, and lent to them.
-fn judged<'a>(h: Header, l: Layout, base: &'a [u8], grown: &'a [u8]) -> Report
-    requires { Bounded limits h }
-    ensures { result ≡ judged_report (tables h l base.now grown.now) }
+fn judged(mesh: &Mesh) -> Result<(), Refusal>
+    requires { Bounded limits mesh.now.header }
+    ensures { outcome_report result ≡ judged_report (tables_read mesh.now) }
 {
     let mut heads = [0u16; chains::KEYS];
     let mut face_heads = [0u16; chains::FACE_KEYS];
@@ -183,10 +155,7 @@ fn judged<'a>(h: Header, l: Layout, base: &'a [u8], grown: &'a [u8]) -> Report
     let mut uses = [0u16; stored::VERTICES];
     let mut children = [0u16; stored::RECORDS];
     judged_with(
-        h,
-        l,
-        base,
-        grown,
+        mesh,
         &mut heads,
         &mut face_heads,
         &mut links,
@@ -196,35 +165,39 @@ fn judged<'a>(h: Header, l: Layout, base: &'a [u8], grown: &'a [u8]) -> Report
 }
 
 // Check's answer without the figures.
-pub fn verdict(mesh: &[u8]) -> Report
-    ensures { VerdictIs (stored1 mesh.now) result }
+pub fn verdict(mesh: &[u8]) -> Result<(), Refusal>
+    ensures { VerdictIs (stored1 mesh.now) (outcome_report result) }
 {
-    let k = stored::kind_1();
-    let format = k.format;
+    let kind = stored::kind_1();
     let nothing = &mesh[..0];
-    if !stored_headers::right_length(k, mesh, nothing) {
-        return refused(1);
+    if !stored_headers::right_length(kind, mesh, nothing) {
+        return Err(Refusal::WrongLength);
     }
-    if !stored_headers::right_mark(format, mesh) {
-        return refused(2);
+    if !stored_headers::right_mark(kind.format, mesh) {
+        return Err(Refusal::WrongMark);
     }
-    let h = stored_headers::header_from(format, mesh);
-    if wrong_counts(k.limits, h) {
-        return refused(3);
+    let header = stored_headers::header_from(kind.format, mesh);
+    if wrong_counts(kind.limits, header) {
+        return Err(Refusal::WrongCounts);
     }
-    judged(h, stored::layout_of(k, h), mesh, nothing)
+    judged(&Mesh {
+        header,
+        layout: stored::layout_of(kind, header),
+        base: mesh,
+        grown: nothing,
+    })
 }
 
 // What the tables are accepted with: a u64 holds the sum of their leaves' volumes, which is their base's.
-fn accepted_with<'a>(h: Header, l: Layout, base: &'a [u8], grown: &'a [u8]) -> Report
-    requires { sixfold (tables h l base.now grown.now) < 2 ^ 64 }
-    ensures { result ≡ accepted (tables h l base.now grown.now) }
+fn accepted_with(mesh: &Mesh) -> Report
+    requires { sixfold (tables_read mesh.now) < 2 ^ 64 }
+    ensures { result ≡ accepted (tables_read mesh.now) }
 {
     Report {
         number: 0,
-        leaves: check_figures::leaves_of(h, l, base, grown),
-        deepest: check_figures::deepest_of(h, l, base, grown),
-        sixfold: check_figures::sixfold_of(h, l, base, grown),
+        leaves: check_figures::leaves_of(mesh),
+        deepest: check_figures::deepest_of(mesh),
+        sixfold: check_figures::sixfold_of(mesh),
         record: 0,
         edge: 0,
     }
@@ -233,11 +206,15 @@ fn accepted_with<'a>(h: Header, l: Layout, base: &'a [u8], grown: &'a [u8]) -> R
 pub fn check(mesh: &[u8]) -> Report
     ensures { CheckOutcomeIs (stored1 mesh.now) result }
 {
-    let r = verdict(mesh);
-    if r.number != 0 {
-        return r;
+    if let Err(refusal) = verdict(mesh) {
+        return check_refusals::outcome_report(Err(refusal));
     }
-    let k = stored::kind_1();
-    let h = stored_headers::header_from(k.format, mesh);
-    accepted_with(h, stored::layout_of(k, h), mesh, &mesh[..0])
+    let kind = stored::kind_1();
+    let header = stored_headers::header_from(kind.format, mesh);
+    accepted_with(&Mesh {
+        header,
+        layout: stored::layout_of(kind, header),
+        base: mesh,
+        grown: &mesh[..0],
+    })
 }

@@ -1,5 +1,5 @@
 -- Two edges compared by their ends, in either order.
-use Rattle.std.specs.Prelude.{◌≡◌, refl, Bool, false, cond, ◌&&◌, ◌⊎◌, List, ℕ, ◌≤◌, ltb, get_or}
+use Rattle.std.specs.Prelude.{◌≡◌, refl, Bool, false, cond, ◌&&◌, List, ℕ, ◌≤◌, ltb, get_or}
 use Rattle.std.proofs.Math.Bool.{true}
 use Rattle.std.proofs.Math.Logic.{inl, inr, ⊎_elim}
 use Rattle.std.proofs.Common.{arith}

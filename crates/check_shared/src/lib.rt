@@ -16,60 +16,33 @@ pub struct Face {
     pub c: u32,
 }
 
-fn one_of(first: bool, x: u32, y: u32) -> u32
-    ensures { result ≡ cond first x y }
-{
-    if first { x } else { y }
-}
-
 // Face i of a piece with these corners: the one without slot i.
 pub fn face_of(p: [u32; 4], i: u8) -> Face
     ensures { result ≡ face_of p i }
 {
     Face {
-        a: one_of(i == 0, p[1], p[0]),
-        b: one_of(i <= 1, p[2], p[1]),
-        c: one_of(i <= 2, p[3], p[2]),
+        a: if i == 0 { p[1] } else { p[0] },
+        b: if i <= 1 { p[2] } else { p[1] },
+        c: if i <= 2 { p[3] } else { p[2] },
     }
 }
 
 fn face_holds(f: Face, x: u32) -> bool
     ensures { result ≡ holds f x }
 {
-    if f.a == x {
-        return true;
-    }
-    if f.b == x {
-        return true;
-    }
-    f.c == x
+    f.a == x || f.b == x || f.c == x
 }
 
 fn face_inside(f: Face, g: Face) -> bool
     ensures { result ≡ inside f g }
 {
-    if !face_holds(g, f.a) {
-        return false;
-    }
-    if !face_holds(g, f.b) {
-        return false;
-    }
-    face_holds(g, f.c)
+    face_holds(g, f.a) && face_holds(g, f.b) && face_holds(g, f.c)
 }
 
 pub fn same_face(f: Face, g: Face) -> bool
     ensures { result ≡ same_set f g }
 {
-    if face_inside(f, g) {
-        return face_inside(g, f);
-    }
-    false
-}
-
-fn greater(x: u32, y: u32) -> u32
-    ensures { result ≡ max x y }
-{
-    if x < y { y } else { x }
+    face_inside(f, g) && face_inside(g, f)
 }
 
 fn only_under(top: u32, x: u32) -> u32
@@ -82,8 +55,9 @@ fn only_under(top: u32, x: u32) -> u32
 fn most_under(top: u32, f: Face) -> u32
     ensures { result ≡ most_under top f }
 {
-    let x = greater(only_under(top, f.a), only_under(top, f.b));
-    greater(x, only_under(top, f.c))
+    only_under(top, f.a)
+        .max(only_under(top, f.b))
+        .max(only_under(top, f.c))
 }
 
 // The sum of a face's corners in falling order, each with its factor. The factors move apart faces whose corners add up to the same, and are odd, so that
@@ -91,7 +65,7 @@ fn most_under(top: u32, f: Face) -> u32
 pub fn corner_sum(f: Face) -> usize
     ensures { result ≡ corner_sum f }
 {
-    let first = greater(greater(f.a, f.b), f.c);
+    let first = f.a.max(f.b).max(f.c);
     let second = most_under(first, f);
     let third = most_under(second, f);
     first as usize + 37 * (second as usize) + 1029 * (third as usize)
@@ -100,39 +74,21 @@ pub fn corner_sum(f: Face) -> usize
 fn has_corner(p: [u32; 4], x: u32) -> bool
     ensures { result ≡ has p x }
 {
-    if p[0] == x {
-        return true;
-    }
-    if p[1] == x {
-        return true;
-    }
-    if p[2] == x {
-        return true;
-    }
-    p[3] == x
+    p.contains(&x)
 }
 
 // Of pieces whose faces i and j are the same: whether the corners that these are without are corners of both pieces too.
 pub fn same_rest(p: [u32; 4], i: u8, q: [u32; 4], j: u8) -> bool
     ensures { result ≡ same_rest p i q j }
 {
-    if has_corner(q, piece::corner_at(p, i)) {
-        return has_corner(p, piece::corner_at(q, j));
-    }
-    false
+    has_corner(q, piece::corner_at(p, i)) && has_corner(p, piece::corner_at(q, j))
 }
 
 // Two pairs, in either order.
 fn same_two(a: u32, b: u32, c: u32, d: u32) -> bool
     ensures { result ≡ same_two a b c d }
 {
-    if a == c {
-        return b == d;
-    }
-    if a == d {
-        return b == c;
-    }
-    false
+    if a == c { b == d } else { a == d && b == c }
 }
 
 // Whether edge e of the one piece is edge f of the other, by their vertex numbers.

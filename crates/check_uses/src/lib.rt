@@ -4,12 +4,12 @@
 ghost use Rattle.std.specs.Prelude.{◌≡◌, ◌||◌, eqb, ltb, length, get_or};
 ghost use Rattle.laws.specs.Below.{any_below};
 ghost use Rattle.laws.specs.Counts.{counts_below};
-ghost use Rattle.stored.specs.Layout.{record_in};
-ghost use Rattle.mesh_tables.specs.Tables.{tables};
+ghost use Rattle.mesh_tables.specs.Tables.{tables_read};
 ghost use Rattle.check_refusals.specs.Refusals.{unused_vertices};
 ghost use Rattle.check_uses.specs.Uses.{used_by};
+ghost use Rattle.stored_entries.specs.Mesh.{record_read};
 
-use stored::{Header, Layout};
+use stored_entries::Mesh;
 
 // One use more of each of a piece's four corners, if the table has it.
 fn count_corners(uses: &mut [u16], corners: [u32; 4])
@@ -21,20 +21,17 @@ fn count_corners(uses: &mut [u16], corners: [u32; 4])
     chains::count(uses, corners[3] as usize);
 }
 
-fn count_record<'a>(uses: &mut [u16], l: Layout, base: &'a [u8], grown: &'a [u8], n: usize)
-    ensures { uses.new ≡ used_by uses.old (record_in l base.now grown.now n).piece.corners }
+fn count_record(uses: &mut [u16], mesh: &Mesh, n: usize)
+    ensures { uses.new ≡ used_by uses.old (record_read mesh.now n).piece.corners }
 {
-    let corners = stored_entries::corners_in(l, base, grown, n);
-    count_corners(uses, corners);
+    count_corners(uses, mesh.corners(n));
 }
 
-fn count_records<'a>(uses: &mut [u16], l: Layout, base: &'a [u8], grown: &'a [u8], count: usize)
-    ensures { uses.new ≡ counts_below (λ t n. used_by t (record_in l base.now grown.now n).piece.corners) uses.old count }
+fn count_records(uses: &mut [u16], mesh: &Mesh, count: usize)
+    ensures { uses.new ≡ counts_below (λ t n. used_by t (record_read mesh.now n).piece.corners) uses.old count }
 {
-    let mut n: usize = 0;
-    while n < count {
-        count_record(uses, l, base, grown, n);
-        n += 1;
+    for n in 0..count {
+        count_record(uses, mesh, n);
     }
 }
 
@@ -42,30 +39,22 @@ fn count_records<'a>(uses: &mut [u16], l: Layout, base: &'a [u8], grown: &'a [u8
 fn any_unused(uses: &[u16], count: usize) -> bool
     ensures { result ≡ any_below count (λ v. eqb (get_or uses.now v 0) 0) }
 {
-    let mut v: usize = 0;
-    while v < count {
+    for v in 0..count {
         if chains::at(uses, v) == 0 {
             return true;
         }
-        v += 1;
     }
     false
 }
 
 // "one count for each of the 1,024 possible vertices": the table is lent by the service, as [0; 1024]. One with no place for some vertex refuses.
-pub fn unused_vertices<'a>(
-    h: Header,
-    l: Layout,
-    base: &'a [u8],
-    grown: &'a [u8],
-    uses: &mut [u16],
-) -> bool
-    ensures { result ≡ (ltb (length uses.old) h.base_vertices || unused_vertices (tables h l base.now grown.now)) }
+pub fn unused_vertices(mesh: &Mesh, uses: &mut [u16]) -> bool
+    ensures { result ≡ (ltb (length uses.old) mesh.now.header.base_vertices || unused_vertices (tables_read mesh.now)) }
 {
-    if uses.len() < h.base_vertices as usize {
+    if uses.len() < mesh.header.base_vertices as usize {
         return true;
     }
-    chains::clear(uses);
-    count_records(uses, l, base, grown, h.base_records as usize);
-    any_unused(uses, h.base_vertices as usize)
+    uses.fill(0);
+    count_records(uses, mesh, mesh.header.base_records as usize);
+    any_unused(uses, mesh.header.base_vertices as usize)
 }

@@ -2,56 +2,36 @@
 #![tactic(auto)]
 
 ghost use Rattle.std.specs.Prelude.{◌≡◌, ◌+◌, ◌/◌, eqb};
-ghost use Rattle.grid.specs.Places.{coordinate, point_of, coordinate_on_grid, on_grid, same_place, is_halfway, halfway_of};
+ghost use Rattle.grid.specs.Places.{coordinate, point_of, coordinate_on_grid, on_grid, is_halfway, halfway_of};
 
 // How much more a place is than its coordinate: as much as makes every i16 a u16.
 pub const SHIFT: u32 = 32768;
 
 // A vertex's place: each coordinate and `SHIFT` more.
-#[derive(Clone, Copy)]
+#[derive(Clone, Copy, PartialEq, Eq)]
 pub struct Place {
     pub x: u16,
     pub y: u16,
     pub z: u16,
 }
 
-// `SHIFT` is a multiple of 32, so a coordinate is on the grid exactly if its place is a multiple of 32 from 32 to 65,504.
+// The least and the greatest place on the grid.
+const LEAST: u16 = 32;
+
+const GREATEST: u16 = 65504;
+
+// `SHIFT` is a multiple of 32, so a coordinate is on the grid exactly if its place is a multiple of 32 from `LEAST` to `GREATEST`.
 fn coordinate_on_grid(p: u16) -> bool
     ensures { result ≡ coordinate_on_grid (coordinate p) }
 {
-    if p % 32 != 0 {
-        return false;
-    }
-    if p < 32 {
-        return false;
-    }
-    p <= 65504
+    p % 32 == 0 && LEAST <= p && p <= GREATEST
 }
 
 // Whether a base vertex may stand here.
 pub fn on_grid(p: Place) -> bool
     ensures { result ≡ on_grid (point_of p) }
 {
-    if !coordinate_on_grid(p.x) {
-        return false;
-    }
-    if !coordinate_on_grid(p.y) {
-        return false;
-    }
-    coordinate_on_grid(p.z)
-}
-
-// Whether two vertices stand at one place.
-pub fn same_place(a: Place, b: Place) -> bool
-    ensures { result ≡ same_place a b }
-{
-    if a.x != b.x {
-        return false;
-    }
-    if a.y != b.y {
-        return false;
-    }
-    a.z == b.z
+    coordinate_on_grid(p.x) && coordinate_on_grid(p.y) && coordinate_on_grid(p.z)
 }
 
 // A u32 holds the sum of two places.
@@ -83,11 +63,5 @@ fn is_half_sum(w: u16, p: u16, q: u16) -> bool
 pub fn is_halfway(w: Place, a: Place, b: Place) -> bool
     ensures { result ≡ is_halfway w a b }
 {
-    if !is_half_sum(w.x, a.x, b.x) {
-        return false;
-    }
-    if !is_half_sum(w.y, a.y, b.y) {
-        return false;
-    }
-    is_half_sum(w.z, a.z, b.z)
+    is_half_sum(w.x, a.x, b.x) && is_half_sum(w.y, a.y, b.y) && is_half_sum(w.z, a.z, b.z)
 }

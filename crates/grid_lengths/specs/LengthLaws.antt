@@ -1,7 +1,8 @@
 -- What code that computes squared lengths on places needs, and how long they can be.
 -- Assumes nothing.
 use Rattle.std.specs.Prelude.{◌≡◌, ℕ, ◌+◌, ◌*◌, ◌-◌, ◌≤◌, ◌<◌, ℤ, pos, nat_abs, ◌+ℤ◌, ◌-ℤ◌}
-use Rattle.std.proofs.Common.{sym, ◌∙◌, ap, mul-le-mul, arith}
+use Rattle.std.proofs.Common.{sym, ◌∙◌, ap, subst, mul-le-mul, arith}
+use Rattle.std.proofs.Math.Decide.{dec_lt}
 use Rattle.algebra.specs.Absolute.{abs_times, abs_difference_swap, square_is}
 use Rattle.grid.specs.Places.{greatest_place, Point, coordinate}
 use Rattle.grid_lengths.specs.Lengths.{square, squared_length}
@@ -31,6 +32,20 @@ pub squared_up : (p q : ℕ) → p < q → q ≤ greatest_place → SquaredDiffe
 squared_up p q h l =
     let d = squared_down q p (omega arith) l in
     record { is = d.is ∙ square_swap (coordinate q) (coordinate p); small = d.small }
+
+-- for either order of the two at once: one of the two remainders is 0
+pub squared_apart : (p q d : ℕ) → d ≡ (p - q) + (q - p) → p ≤ greatest_place → q ≤ greatest_place → SquaredDifference p q (d * d)
+squared_apart p q d e h k =
+    elim (dec_lt p q) [
+      | yes l ↦ subst (λ (n : ℕ). SquaredDifference p q (n * n)) (up p q d e l) (squared_up p q l k)
+      | no l ↦ subst (λ (n : ℕ). SquaredDifference p q (n * n)) (down p q d e l) (squared_down p q (omega arith) h)
+    ]
+  where
+    up : (p q d : ℕ) → d ≡ (p - q) + (q - p) → p < q → q - p ≡ d
+    up p q d e l = omega arith
+
+    down : (p q d : ℕ) → d ≡ (p - q) + (q - p) → (p < q → ⊥) → p - q ≡ d
+    down p q d e l = omega arith
 
 -- a squared length is the sum of three squares
 pub squared_length_is : (p q : Point) →

@@ -20,30 +20,14 @@ pub struct Ranked {
 pub fn ranks_before(a: Ranked, b: Ranked) -> bool
     ensures { result ≡ ranks_before a b }
 {
-    if b.length < a.length {
-        return true;
-    }
-    if a.length != b.length {
-        return false;
-    }
-    if a.lower < b.lower {
-        return true;
-    }
-    if a.lower != b.lower {
-        return false;
-    }
-    a.higher < b.higher
+    (b.length, a.lower, a.higher) < (a.length, b.lower, b.higher)
 }
 
-// The greater place less the smaller: the difference of places is that of coordinates.
+// The difference of places is that of coordinates.
 fn squared_difference(p: u16, q: u16) -> u64
     ensures { SquaredDifference p q result }
 {
-    if p < q {
-        let d = (q - p) as u64;
-        return d * d;
-    }
-    let d = (p - q) as u64;
+    let d = p.abs_diff(q) as u64;
     d * d
 }
 

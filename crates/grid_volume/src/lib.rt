@@ -54,8 +54,7 @@ fn determinant(m: [[i64; 3]; 3]) -> i64
 pub fn signed(a: Place, b: Place, c: Place, d: Place) -> i64
     ensures { result ≡ signed_of (corners_of (point_of a) (point_of b) (point_of c) (point_of d)) }
 {
-    let m = [difference(b, a), difference(c, a), difference(d, a)];
-    determinant(m)
+    determinant([difference(b, a), difference(c, a), difference(d, a)])
 }
 
 // A piece with this signed determinant is flat.

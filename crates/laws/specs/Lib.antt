@@ -6,3 +6,4 @@ pub mod Pairs
 pub mod Links
 pub mod Counts
 pub mod Order
+pub mod Ranges

@@ -156,6 +156,11 @@ module _ {ℓ} {A : Type ℓ} where
         (λ full. let short : length d - at < length s = leb-false (length s) (length d - at) full in copied_full n (omega arith) (omega arith))
         (either (leb (length s) (length d - at)))
 
+    -- so what fits is written as all of it is
+    pub sets_fitting : (n : ℕ) → n ≡ min (length s) (length d - at) → sets d at (take n s) ≡ sets d at s
+    unfolding copied
+    sets_fitting n e = copied_whole n e
+
   -- clearing is the copy of n times z: one more turn
   pub cleared_next : (d : List A) (at n i : ℕ) (z : A) → i < n → set (copied d at (replicate n z) i) (at + i) z ≡ copied d at (replicate n z) (i + 1)
   cleared_next d at n i z h =

@@ -4,9 +4,11 @@
 ghost use Rattle.std.specs.Prelude.{◌≡◌};
 ghost use Rattle.list_text.specs.Line.{line, put};
 ghost use Rattle.list_text.specs.Text.{figures};
+ghost use Rattle.list_writer.specs.Written.{written};
 ghost use Rattle.list_lines.specs.Lines.{refused_line, count_figures, check_figures, heading_line, corner_figures, edge_figures, leaf_line};
 
 use check_refusals::Report;
+use list_writer::Writer;
 use piece::Piece;
 use stored::Header;
 
@@ -16,59 +18,64 @@ pub const LINE: usize = 128;
 pub fn set_refused(buffer: &mut [u8], number: u64) -> usize
     ensures { line buffer.new result ≡ put (refused_line number) (line buffer.old 0) }
 {
-    let at = list_writer::figure(buffer, 0, b"refused ", number);
-    list_writer::end(buffer, at)
+    let mut w = Writer::new(buffer);
+    w.figure(b"refused ", number);
+    w.end();
+    w.at
 }
 
-fn set_counts(buffer: &mut [u8], h: Header) -> usize
-    ensures { line buffer.new result ≡ put (figures (count_figures h)) (line buffer.old 0) }
+fn put_counts(w: &mut Writer, h: Header)
+    ensures { w.new ≡ written w.old (figures (count_figures h)) }
 {
-    let at = list_writer::figure(buffer, 0, b"job ", h.job as u64);
-    let at = list_writer::figure(buffer, at, b" round ", h.round as u64);
-    let at = list_writer::figure(buffer, at, b" vertices ", h.vertices as u64);
-    list_writer::figure(buffer, at, b" records ", h.records as u64)
+    w.figure(b"job ", h.job as u64);
+    w.figure(b" round ", h.round as u64);
+    w.figure(b" vertices ", h.vertices as u64);
+    w.figure(b" records ", h.records as u64);
 }
 
-fn put_figures(buffer: &mut [u8], at: usize, report: Report) -> usize
-    ensures { line buffer.new result ≡ put (figures (check_figures report)) (line buffer.old at) }
+fn put_figures(w: &mut Writer, report: Report)
+    ensures { w.new ≡ written w.old (figures (check_figures report)) }
 {
-    let at = list_writer::figure(buffer, at, b" leaves ", report.leaves);
-    let at = list_writer::figure(buffer, at, b" deepest ", report.deepest);
-    list_writer::figure(buffer, at, b" sixfold ", report.sixfold)
+    w.figure(b" leaves ", report.leaves);
+    w.figure(b" deepest ", report.deepest);
+    w.figure(b" sixfold ", report.sixfold);
 }
 
 pub fn set_heading(buffer: &mut [u8], h: Header, report: Report) -> usize
     ensures { line buffer.new result ≡ put (heading_line h report) (line buffer.old 0) }
 {
-    let at = set_counts(buffer, h);
-    let at = put_figures(buffer, at, report);
-    list_writer::end(buffer, at)
+    let mut w = Writer::new(buffer);
+    put_counts(&mut w, h);
+    put_figures(&mut w, report);
+    w.end();
+    w.at
 }
 
-fn set_corners(buffer: &mut [u8], n: usize, p: Piece) -> usize
-    ensures { line buffer.new result ≡ put (figures (corner_figures n p)) (line buffer.old 0) }
+fn put_corners(w: &mut Writer, n: usize, p: Piece)
+    ensures { w.new ≡ written w.old (figures (corner_figures n p)) }
 {
-    let corners = p.corners;
-    let at = list_writer::figure(buffer, 0, b"", n as u64);
-    let at = list_writer::figure(buffer, at, b" ", piece::corner_at(corners, 0) as u64);
-    let at = list_writer::figure(buffer, at, b" ", piece::corner_at(corners, 1) as u64);
-    let at = list_writer::figure(buffer, at, b" ", piece::corner_at(corners, 2) as u64);
-    list_writer::figure(buffer, at, b" ", piece::corner_at(corners, 3) as u64)
+    w.figure(b"", n as u64);
+    w.figure(b" ", p.corners[0] as u64);
+    w.figure(b" ", p.corners[1] as u64);
+    w.figure(b" ", p.corners[2] as u64);
+    w.figure(b" ", p.corners[3] as u64);
 }
 
-fn put_edge(buffer: &mut [u8], at: usize, p: Piece) -> usize
-    ensures { line buffer.new result ≡ put (figures (edge_figures p)) (line buffer.old at) }
+fn put_edge(w: &mut Writer, p: Piece)
+    ensures { w.new ≡ written w.old (figures (edge_figures p)) }
 {
     let ends = piece::ends_of(p, p.edge);
-    let at = list_writer::figure(buffer, at, b" edge ", ends.lower as u64);
-    let at = list_writer::figure(buffer, at, b" ", ends.higher as u64);
-    list_writer::figure(buffer, at, b" gen ", p.generation as u64)
+    w.figure(b" edge ", ends.lower as u64);
+    w.figure(b" ", ends.higher as u64);
+    w.figure(b" gen ", p.generation as u64);
 }
 
 pub fn set_leaf(buffer: &mut [u8], n: usize, p: Piece) -> usize
     ensures { line buffer.new result ≡ put (leaf_line n p) (line buffer.old 0) }
 {
-    let at = set_corners(buffer, n, p);
-    let at = put_edge(buffer, at, p);
-    list_writer::end(buffer, at)
+    let mut w = Writer::new(buffer);
+    put_corners(&mut w, n, p);
+    put_edge(&mut w, p);
+    w.end();
+    w.at
 }

@@ -2,7 +2,8 @@
 #![tactic(auto)]
 
 ghost use Rattle.std.specs.Prelude.{◌≡◌, cond, [], ℕ, ◌+◌, ◌≤◌, ◌<◌, ◌^◌, length, eqb};
-ghost use Rattle.stored.specs.Layout.{stored1, header_of, record_in};
+ghost use Rattle.stored.specs.Layout.{stored1, header_of};
+ghost use Rattle.stored_entries.specs.Mesh.{record_read};
 ghost use Rattle.mesh_tables.specs.Tables.{tables_of};
 ghost use Rattle.check_refusals.specs.Check.{check_of};
 ghost use Rattle.list_lines.specs.Lines.{line_room, refused_line, heading_line, leaf_line};
@@ -11,7 +12,8 @@ ghost use Rattle.list_service.specs.Putting.{TextPut, leaf_text, ListingPut};
 
 use check_refusals::Report;
 use piece::Piece;
-use stored::{Header, Layout};
+use stored::Header;
+use stored_entries::Mesh;
 
 // What list returns: a refusal's number or 0, and how long the text is that the buffer holds.
 #[repr(C)]
@@ -60,16 +62,15 @@ fn put_leaf(out: &mut [u8], at: usize, n: usize, p: Piece) -> usize
 }
 
 // Record n's line, if it is a leaf.
-fn put_record(out: &mut [u8], at: usize, mesh: &[u8], l: Layout, n: usize) -> usize
-    requires { (n < 10 ^ 10) × (at + line_room < 2 ^ 64) }
-    ensures { TextPut out.old at (leaf_text (record_in l mesh.now [] n) n) out.new result }
+fn put_record(out: &mut [u8], at: usize, mesh: &Mesh, n: usize) -> usize
+    requires fits { length (leaf_line n (record_read mesh.now n).piece) ≤ line_room }
+    requires room { at + line_room < 2 ^ 64 }
+    ensures { TextPut out.old at (leaf_text (record_read mesh.now n) n) out.new result }
 {
-    let nothing = &mesh[..0];
-    if !mesh_tables::is_leaf(l, mesh, nothing, n) {
+    if !mesh_tables::is_leaf(mesh, n) {
         return at;
     }
-    let record = stored_entries::record_in(l, mesh, nothing, n);
-    put_leaf(out, at, n, record.piece)
+    put_leaf(out, at, n, mesh.record(n).piece)
 }
 
 // "then each leaf in rising record number"
@@ -77,13 +78,16 @@ fn put_leaves(out: &mut [u8], at: usize, mesh: &[u8], h: Header) -> usize
     requires { (at ≤ line_room) × (h ≡ header_of (stored1 mesh.now)) }
     ensures { TextPut out.old at (text_of (leaf_lines (tables_of (stored1 mesh.now)) h.records)) out.new result }
 {
-    let l = stored::layout_of(stored::kind_1(), h);
+    let read = Mesh {
+        header: h,
+        layout: stored::layout_of(stored::kind_1(), h),
+        base: mesh,
+        grown: &mesh[..0],
+    };
     let count = h.records as usize;
     let mut next = at;
-    let mut n: usize = 0;
-    while n < count {
-        next = put_record(out, next, mesh, l, n);
-        n += 1;
+    for n in 0..count {
+        next = put_record(out, next, &read, n);
     }
     next
 }
@@ -130,10 +134,10 @@ fn too_short(number: u64) -> u64
 pub fn list(mesh: &[u8], out: &mut [u8]) -> Listed
     ensures { ListOutcomeIs mesh.now (length out.old) result out.new }
 {
-    slices_written::clear(out);
+    out.fill(0);
     let whole = put_listing(out, mesh);
     if (out.len() as u64) < whole.length {
-        slices_written::clear(out);
+        out.fill(0);
         return Listed {
             number: too_short(whole.number),
             length: 0,

@@ -1,2 +1,3 @@
--- What a writer is once bytes are put.
+-- What a writer is once bytes are put, and its laws.
 pub mod Written
+pub mod Laws

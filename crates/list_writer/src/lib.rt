@@ -1,53 +1,47 @@
-// A writer: it holds a slice of the line buffer, and the place of the next byte. Each function that takes one calls a function over the slice
-// and the place.
+// The writer: it holds a slice of the line buffer, and the place of the next byte. What it puts, it puts by list_text's functions over both.
 #![tactic(auto)]
 
 ghost use Rattle.std.specs.Prelude.{◌≡◌, ◌++◌};
-ghost use Rattle.list_text.specs.Line.{line, put};
 ghost use Rattle.list_text.specs.Text.{decimal, line_feed};
 ghost use Rattle.list_writer.specs.Written.{written};
 
 #[derive(Drop)]
-struct Writer<'a> {
+pub struct Writer<'a> {
     buffer: &'a mut [u8],
-    at: usize,
+    pub at: usize,
 }
 
-fn new<'a>(buffer: &'a mut [u8], at: usize) -> Writer<'a>
-    ensures { (result.buffer ≡ buffer.entry) × (result.at ≡ at) }
-{
-    Writer {
-        buffer: buffer,
-        at: at,
+impl<'a> Writer<'a> {
+    // At the start of the buffer.
+    pub fn new(buffer: &'a mut [u8]) -> Writer<'a>
+        ensures { (result.buffer ≡ buffer.entry) × (result.at ≡ 0) }
+    {
+        Writer { buffer, at: 0 }
     }
-}
 
-fn put_bytes<'a, 'b>(w: &mut Writer<'a>, bytes: &'b [u8])
-    ensures { w.new ≡ written w.old bytes.now }
-{
-    let at = w.at;
-    w.at = list_text::bytes_at(&mut *w.buffer, at, bytes);
-}
+    pub fn put_bytes(&mut self, bytes: &[u8])
+        ensures { self.new ≡ written self.old bytes.now }
+    {
+        self.at = list_text::bytes_at(&mut *self.buffer, self.at, bytes);
+    }
 
-// The writer is not needed after a number: the place of the next byte is handed back.
-fn put_number<'a>(w: Writer<'a>, n: u64) -> usize
-    ensures { line w.exit.0.now result ≡ put (decimal n) (line w.entry.buffer.now w.entry.at) }
-{
-    let at = w.at;
-    list_text::number_at(&mut *w.buffer, at, n)
-}
+    pub fn put_number(&mut self, n: u64)
+        ensures { self.new ≡ written self.old (decimal n) }
+    {
+        self.at = list_text::number_at(&mut *self.buffer, self.at, n);
+    }
 
-// A number behind its word. Its contract says nothing of a writer.
-pub fn figure(buffer: &mut [u8], at: usize, name: &[u8], n: u64) -> usize
-    ensures { line buffer.new result ≡ put (name.now ++ decimal n) (line buffer.old at) }
-{
-    let mut w = new(buffer, at);
-    put_bytes(&mut w, name);
-    put_number(w, n)
-}
+    // A number behind its word.
+    pub fn figure(&mut self, name: &[u8], n: u64)
+        ensures { self.new ≡ written self.old (name.now ++ decimal n) }
+    {
+        self.put_bytes(name);
+        self.put_number(n);
+    }
 
-pub fn end(buffer: &mut [u8], at: usize) -> usize
-    ensures { line buffer.new result ≡ put line_feed (line buffer.old at) }
-{
-    list_text::byte_at(buffer, at, b'\n')
+    pub fn end(&mut self)
+        ensures { self.new ≡ written self.old line_feed }
+    {
+        self.put_bytes(b"\n");
+    }
 }

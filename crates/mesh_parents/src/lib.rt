@@ -4,27 +4,22 @@
 
 ghost use Rattle.std.specs.Prelude.{◌≡◌, cond, ◌&&◌, ltb, length, get_or};
 ghost use Rattle.laws.specs.Links.{links_of, pushed, any_along, first_along};
-ghost use Rattle.mesh_tables.specs.Tables.{tables, has_parents};
+ghost use Rattle.chains.specs.Held.{links_in, SameSlices};
+ghost use Rattle.mesh_tables.specs.Tables.{tables_read, has_parents};
 ghost use Rattle.mesh_parents.specs.Pairs.{pair_sum, pair_key, key_of, pair_links, cleared};
 
+use chains::Links;
 use piece::Ends;
-use stored::{Header, Layout};
+use stored_entries::Mesh;
 
 // Whether vertex v is made and has these parents.
-pub fn has_parents<'a>(
-    h: Header,
-    l: Layout,
-    base: &'a [u8],
-    grown: &'a [u8],
-    ends: Ends,
-    v: usize,
-) -> bool
-    ensures { result ≡ has_parents (tables h l base.now grown.now) ends v }
+pub fn has_parents(mesh: &Mesh, ends: Ends, v: usize) -> bool
+    ensures { result ≡ has_parents (tables_read mesh.now) ends v }
 {
-    if v < h.base_vertices as usize {
+    if v < mesh.header.base_vertices as usize {
         return false;
     }
-    let parents = stored_entries::parents_in(l, base, grown, v);
+    let parents = mesh.parents(v);
     if parents.lower != ends.lower {
         return false;
     }
@@ -46,160 +41,75 @@ pub fn pair_key(keys: usize, ends: Ends) -> usize
 }
 
 // The key of vertex v: past the heads if it is a base vertex.
-fn vertex_key<'a>(
-    h: Header,
-    l: Layout,
-    base: &'a [u8],
-    grown: &'a [u8],
-    keys: usize,
-    v: usize,
-) -> usize
-    ensures { result ≡ key_of keys (tables h l base.now grown.now) v }
+fn vertex_key(mesh: &Mesh, keys: usize, v: usize) -> usize
+    ensures { result ≡ key_of keys (tables_read mesh.now) v }
 {
-    if v < h.base_vertices as usize {
+    if v < mesh.header.base_vertices as usize {
         return keys;
     }
-    pair_key(keys, stored_entries::parents_in(l, base, grown, v))
+    pair_key(keys, mesh.parents(v))
 }
 
 // Vertex v is put before the others with its key.
-pub fn link_vertex<'a>(
-    h: Header,
-    l: Layout,
-    base: &'a [u8],
-    grown: &'a [u8],
-    heads: &mut [u16],
-    nexts: &mut [u16],
-    v: usize,
-)
-    ensures heads_after { heads.new ≡ (pushed (links_of heads.old nexts.old) (key_of (length heads.old) (tables h l base.now grown.now) v) v).heads }
-    ensures nexts_after { nexts.new ≡ (pushed (links_of heads.old nexts.old) (key_of (length heads.old) (tables h l base.now grown.now) v) v).nexts }
+pub fn link_vertex(mesh: &Mesh, links: &mut Links, v: usize)
+    ensures linked { links_in links.new ≡ pushed (links_in links.old) (key_of (length links.old.heads.now) (tables_read mesh.now) v) v }
+    ensures same { SameSlices links.old links.new }
 {
-    let key = vertex_key(h, l, base, grown, heads.len(), v);
-    chains::push(heads, nexts, key, v);
+    let key = vertex_key(mesh, links.keys(), v);
+    links.push(key, v);
 }
 
 // All vertices, one after the other.
-fn link_all<'a>(
-    h: Header,
-    l: Layout,
-    base: &'a [u8],
-    grown: &'a [u8],
-    heads: &mut [u16],
-    nexts: &mut [u16],
-)
-    ensures heads_after { heads.new ≡ (pair_links (tables h l base.now grown.now) (links_of heads.old nexts.old) h.vertices).heads }
-    ensures nexts_after { nexts.new ≡ (pair_links (tables h l base.now grown.now) (links_of heads.old nexts.old) h.vertices).nexts }
+fn link_all(mesh: &Mesh, links: &mut Links)
+    ensures linked { links_in links.new ≡ pair_links (tables_read mesh.now) (links_in links.old) mesh.now.header.vertices }
+    ensures same { SameSlices links.old links.new }
 {
-    let count = h.vertices as usize;
-    let mut v: usize = 0;
-    while v < count {
-        link_vertex(h, l, base, grown, heads, nexts, v);
-        v += 1;
+    let count = mesh.header.vertices as usize;
+    for v in 0..count {
+        link_vertex(mesh, links, v);
     }
 }
 
 // All vertices, in links that are empty at first, whatever stood in the lists.
-pub fn link_pairs<'a>(
-    h: Header,
-    l: Layout,
-    base: &'a [u8],
-    grown: &'a [u8],
-    heads: &mut [u16],
-    nexts: &mut [u16],
-)
-    ensures heads_after { heads.new ≡ (pair_links (tables h l base.now grown.now) (cleared heads.old nexts.old) h.vertices).heads }
-    ensures nexts_after { nexts.new ≡ (pair_links (tables h l base.now grown.now) (cleared heads.old nexts.old) h.vertices).nexts }
+pub fn link_pairs(mesh: &Mesh, links: &mut Links)
+    ensures linked { links_in links.new ≡ pair_links (tables_read mesh.now) (cleared links.old.heads.now links.old.nexts.now) mesh.now.header.vertices }
+    ensures same { SameSlices links.old links.new }
 {
-    chains::clear(heads);
-    link_all(h, l, base, grown, heads, nexts);
+    links.clear();
+    link_all(mesh, links);
 }
 
 // Whether vertex u is below count and has these parents.
-fn has_parents_below<'a>(
-    h: Header,
-    l: Layout,
-    base: &'a [u8],
-    grown: &'a [u8],
-    count: usize,
-    ends: Ends,
-    u: usize,
-) -> bool
-    ensures { result ≡ (ltb u count && has_parents (tables h l base.now grown.now) ends u) }
+fn has_parents_below(mesh: &Mesh, count: usize, ends: Ends, u: usize) -> bool
+    ensures { result ≡ (ltb u count && has_parents (tables_read mesh.now) ends u) }
 {
     if count <= u {
         return false;
     }
-    has_parents(h, l, base, grown, ends, u)
+    has_parents(mesh, ends, u)
 }
 
 // Whether a vertex below count has these parents, along the links from one on.
-pub fn any_from<'a>(
-    h: Header,
-    l: Layout,
-    base: &'a [u8],
-    grown: &'a [u8],
-    nexts: &'a [u16],
-    count: usize,
-    ends: Ends,
-    from: usize,
-) -> bool
-    ensures { result ≡ any_along nexts.now (λ u. ltb u count && has_parents (tables h l base.now grown.now) ends u) from }
+pub fn any_from(mesh: &Mesh, links: &Links, count: usize, ends: Ends, from: usize) -> bool
+    ensures { result ≡ any_along links.now.nexts.now (λ u. ltb u count && has_parents (tables_read mesh.now) ends u) from }
 {
-    let mut to = from;
-    while 0 < to {
-        let u = to - 1;
-        if has_parents_below(h, l, base, grown, count, ends, u) {
-            return true;
-        }
-        to = chains::link(nexts, u);
-    }
-    false
+    links.any(from, |u| has_parents_below(mesh, count, ends, u))
 }
 
 // Where the links of a pair's key begin.
-pub fn head_of(heads: &[u16], ends: Ends) -> usize
-    ensures { result ≡ get_or heads.now (pair_key (length heads.now) ends) 0 }
+pub fn head_of(links: &Links, ends: Ends) -> usize
+    ensures { result ≡ get_or links.now.heads.now (pair_key (length links.now.heads.now) ends) 0 }
 {
-    chains::first(heads, pair_sum(ends))
-}
-
-// Vertex u if it has these parents, and else what was found before.
-fn found_at<'a>(
-    h: Header,
-    l: Layout,
-    base: &'a [u8],
-    grown: &'a [u8],
-    ends: Ends,
-    u: usize,
-    otherwise: usize,
-) -> usize
-    ensures { result ≡ cond (has_parents (tables h l base.now grown.now) ends u) u otherwise }
-{
-    if has_parents(h, l, base, grown, ends, u) {
-        return u;
-    }
-    otherwise
+    links.first(pair_sum(ends))
 }
 
 // The lowest vertex along the links with these parents; the count of vertices where there is none.
-pub fn first_with<'a>(
-    h: Header,
-    l: Layout,
-    base: &'a [u8],
-    grown: &'a [u8],
-    heads: &'a [u16],
-    nexts: &'a [u16],
-    ends: Ends,
-) -> usize
-    ensures { result ≡ first_along nexts.now (has_parents (tables h l base.now grown.now) ends) (get_or heads.now (pair_key (length heads.now) ends) 0) h.vertices }
+pub fn first_with(mesh: &Mesh, links: &Links, ends: Ends) -> usize
+    ensures { result ≡ first_along links.now.nexts.now (has_parents (tables_read mesh.now) ends) (get_or links.now.heads.now (pair_key (length links.now.heads.now) ends) 0) mesh.now.header.vertices }
 {
-    let mut found = h.vertices as usize;
-    let mut to = head_of(heads, ends);
-    while 0 < to {
-        let u = to - 1;
-        found = found_at(h, l, base, grown, ends, u, found);
-        to = chains::link(nexts, u);
-    }
-    found
+    links.lowest(
+        head_of(links, ends),
+        mesh.header.vertices as usize,
+        |u| has_parents(mesh, ends, u),
+    )
 }

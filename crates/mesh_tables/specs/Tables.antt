@@ -11,6 +11,7 @@ use Rattle.stored.specs.declared.Header.{Header}
 use Rattle.stored.specs.declared.Vertex.{Vertex}
 use Rattle.stored.specs.declared.Record.{Record}
 use Rattle.stored.specs.Layout.{none, Stored, header_of, layout_in, vertex_in, record_in}
+use Rattle.stored_entries.specs.declared.Mesh.{Mesh}
 
 pub record Tables : Type 0 where
   pub header : Header
@@ -20,6 +21,10 @@ pub record Tables : Type 0 where
 -- The tables with this header, as a layout finds them in two slices.
 abbrev pub tables : Header → Layout → List ℕ → List ℕ → Tables
 tables h l base grown = record { header = h; vertex_at = vertex_in l base grown; record_at = record_in l base grown }
+
+-- The tables of a mesh as it is read.
+abbrev pub tables_read : Mesh → Tables
+tables_read m = tables m.header m.layout m.base.now m.grown.now
 
 -- The tables that a stored mesh holds.
 unfoldable pub tables_of : Stored → Tables

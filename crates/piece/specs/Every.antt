@@ -1,5 +1,5 @@
 -- A test that is computed over all valid shapes, and the lemma that turns it into the rule at each.
-use Rattle.std.specs.Prelude.{◌≡◌, Bool, true, false, ◌⊎◌, List, [], ◌∷◌, ℕ, ◌<◌, length, eqb, ltb}
+use Rattle.std.specs.Prelude.{◌≡◌, Bool, true, false, List, [], ◌∷◌, ℕ, ◌<◌, length, eqb, ltb}
 use Rattle.std.proofs.Common.{sym, ap, subst, ⊎_elim, arith, ltb-true, eqb-true}
 use Rattle.std.proofs.lemmas.Bool.{false≢true}
 use Rattle.laws.specs.Below.{all_below, all_at, and_left, and_right, or_second, either}

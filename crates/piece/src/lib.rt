@@ -8,7 +8,7 @@ ghost use Rattle.piece.specs.Ends.{lower_end, higher_end, between, ends_at, ends
 // "Generations go up to 15."
 pub const LAST_GENERATION: u8 = 15;
 
-#[derive(Clone, Copy)]
+#[derive(Clone, Copy, PartialEq, Eq)]
 pub struct Piece {
     // Vertex numbers in slots 0 to 3.
     pub corners: [u32; 4],
@@ -23,7 +23,7 @@ pub struct Piece {
 }
 
 // The two vertex numbers of an edge.
-#[derive(Clone, Copy)]
+#[derive(Clone, Copy, PartialEq, Eq)]
 pub struct Ends {
     pub lower: u32,
     pub higher: u32,
@@ -33,25 +33,18 @@ pub struct Ends {
 pub fn mark_fits(edge: u8, m: u8, i: u8) -> bool
     ensures { result ≡ mark_fits edge m i }
 {
-    if !piece_edges::on_face(m, i) {
-        return false;
-    }
-    if !piece_edges::on_face(edge, i) {
-        return true;
-    }
-    m == edge
+    piece_edges::on_face(m, i) && (!piece_edges::on_face(edge, i) || m == edge)
 }
 
 // The marked edge of face i.
 pub fn mark_of(p: Piece, i: u8) -> u8
     ensures { result ≡ mark (shape_of p) i }
 {
-    let marks = p.marks;
     match i {
-        0 => marks[0],
-        1 => marks[1],
-        2 => marks[2],
-        3 => marks[3],
+        0 => p.marks[0],
+        1 => p.marks[1],
+        2 => p.marks[2],
+        3 => p.marks[3],
         _ => 0,
     }
 }
@@ -60,49 +53,42 @@ pub fn mark_of(p: Piece, i: u8) -> u8
 pub fn corner_at(corners: [u32; 4], k: u8) -> u32
     ensures { result ≡ get_or corners k 0 }
 {
-    let at = k as usize;
-    if at < 4 { corners[at] } else { 0 }
+    if k < 4 { corners[k as usize] } else { 0 }
 }
 
 // Of edge e, the slot of the end of lower vertex number.
 pub fn lower_end(p: Piece, e: u8) -> u8
     ensures { result ≡ lower_end p e }
 {
-    let corners = p.corners;
     let low = piece_edges::low_slot(e);
     let high = piece_edges::high_slot(e);
-    if corner_at(corners, low) < corner_at(corners, high) {
-        return low;
+    if corner_at(p.corners, low) < corner_at(p.corners, high) {
+        low
+    } else {
+        high
     }
-    high
 }
 
 // Of edge e, the slot of the end of higher vertex number.
 pub fn higher_end(p: Piece, e: u8) -> u8
     ensures { result ≡ higher_end p e }
 {
-    let corners = p.corners;
     let low = piece_edges::low_slot(e);
     let high = piece_edges::high_slot(e);
-    if corner_at(corners, low) < corner_at(corners, high) {
-        return high;
+    if corner_at(p.corners, low) < corner_at(p.corners, high) {
+        high
+    } else {
+        low
     }
-    low
 }
 
 // Two vertex numbers as the ends of an edge, the lower first.
 pub fn ends_between(u: u32, v: u32) -> Ends
     ensures { result ≡ between u v }
 {
-    if u < v {
-        return Ends {
-            lower: u,
-            higher: v,
-        };
-    }
     Ends {
-        lower: v,
-        higher: u,
+        lower: u.min(v),
+        higher: u.max(v),
     }
 }
 
@@ -119,6 +105,5 @@ pub fn ends_at(corners: [u32; 4], e: u8) -> Ends
 pub fn ends_of(p: Piece, e: u8) -> Ends
     ensures { result ≡ ends_of p e }
 {
-    let corners = p.corners;
-    ends_at(corners, e)
+    ends_at(p.corners, e)
 }

@@ -1,11 +1,11 @@
 -- Of specs/Theorems.antt, the theorems that an edit of a definition breaks, and what only they need.
-use Rattle.std.specs.Prelude.{◌≡◌, refl, Bool, true, false, cond, ◌&&◌, ◌||◌, ◌⊎◌, ℕ, ◌<◌, eqb}
+use Rattle.std.specs.Prelude.{◌≡◌, refl, Bool, true, false, cond, ◌&&◌, ◌||◌, ℕ, ◌<◌, eqb}
 use Rattle.std.proofs.Common.{ap, subst}
 use Rattle.std.proofs.Math.Bool.{not}
 use Rattle.std.proofs.Math.Logic.{⊎_elim}
 use borrow.Author.Tests.{eqb-true}
 use Rattle.laws.specs.Below.{all_below, all_at, and_left, and_right, or_second, either}
-use Rattle.piece_edges.specs.Edges.{has_slot, other_end, on_face, opposite}
+use Rattle.piece_edges.specs.Edges.{has_slot, other_end, on_face}
 use Rattle.piece.specs.Shape.{Shape, Valid, mark, slot_a, slot_b, type_p, type_a, type_o, type_m, set_p, unset_p, valid_shape}
 use Rattle.piece_cut.specs.Cut.{new_mark, child_shape}
 use Rattle.piece.specs.Every.{every_shape, every_shape_lem, only_if, only_if_holds}

@@ -26,10 +26,8 @@ fn child_corners(p: Piece, w: u32, k: u8) -> [u32; 4]
     ensures { result ≡ child_corners p.corners w k }
 {
     let mut corners = p.corners;
-    let at = k as usize;
-    if at < 4 {
-        corners[at] = w;
-        return corners;
+    if k < 4 {
+        corners[k as usize] = w;
     }
     corners
 }
@@ -74,10 +72,7 @@ fn new_mark(p: Piece, set: bool, k: u8) -> u8
 fn child_flag(p: Piece) -> u8
     ensures { result ≡ child_flag (shape_of p) }
 {
-    if piece_types::is_unset_p(p) {
-        return 1;
-    }
-    0
+    u8::from(piece_types::is_unset_p(p))
 }
 
 // "Mark the faces of the children as follows": which step marks face i. The new face's mark is given.
@@ -100,8 +95,6 @@ fn child(p: Piece, set: bool, flag: u8, w: u32, k: u8) -> Piece
     requires { (set ≡ set_p (shape_of p)) × (flag ≡ child_flag (shape_of p)) }
     ensures { result ≡ child_of p w k }
 {
-    let corners = child_corners(p, w, k);
-    let edge = refinement_edge(p, k);
     let new = new_mark(p, set, k);
     let marks = [
         child_mark(p, k, new, 0),
@@ -109,13 +102,12 @@ fn child(p: Piece, set: bool, flag: u8, w: u32, k: u8) -> Piece
         child_mark(p, k, new, 2),
         child_mark(p, k, new, 3),
     ];
-    let generation = ((p.generation as u32 + 1) % 256) as u8;
     Piece {
-        corners: corners,
-        edge: edge,
-        marks: marks,
-        flag: flag,
-        generation: generation,
+        corners: child_corners(p, w, k),
+        edge: refinement_edge(p, k),
+        marks,
+        flag,
+        generation: p.generation.wrapping_add(1),
         material: p.material,
     }
 }

@@ -32,10 +32,7 @@ pub fn high_slot(e: u8) -> u8
 fn has_slot(e: u8, k: u8) -> bool
     ensures { result ≡ has_slot e k }
 {
-    if low_slot(e) == k {
-        return true;
-    }
-    high_slot(e) == k
+    low_slot(e) == k || high_slot(e) == k
 }
 
 // Of an edge and one of its ends, the other end.
@@ -43,10 +40,7 @@ pub fn other_end(e: u8, k: u8) -> u8
     ensures { result ≡ other_end e k }
 {
     let low = low_slot(e);
-    if low == k {
-        return high_slot(e);
-    }
-    low
+    if low == k { high_slot(e) } else { low }
 }
 
 // The code of the edge between two slots, and 6 where there is none.
@@ -86,10 +80,7 @@ pub fn edge_between(j: u8, k: u8) -> u8
 pub fn on_face(e: u8, i: u8) -> bool
     ensures { result ≡ on_face e i }
 {
-    if e < 6 {
-        return !has_slot(e, i);
-    }
-    false
+    e < 6 && !has_slot(e, i)
 }
 
 // The edge of face i opposite slot k: the one with neither of them. Where i is k, or one of them is no slot, it is the first such edge.

@@ -10,10 +10,8 @@ use piece::Piece;
 fn other_marks_are(p: Piece, x: u8, y: u8) -> bool
     ensures { result ≡ other_marks_are (shape_of p) x y }
 {
-    if piece::mark_of(p, piece_edges::high_slot(p.edge)) == x {
-        return piece::mark_of(p, piece_edges::low_slot(p.edge)) == y;
-    }
-    false
+    piece::mark_of(p, piece_edges::high_slot(p.edge)) == x
+        && piece::mark_of(p, piece_edges::low_slot(p.edge)) == y
 }
 
 // "P, (ac, bc) or (ad, bd)".
@@ -25,14 +23,11 @@ fn is_type_p(p: Piece) -> bool
     let cd = piece_edges::opposite_on(a, b);
     let c = piece_edges::low_slot(cd);
     let d = piece_edges::high_slot(cd);
-    if other_marks_are(
+    other_marks_are(
         p,
         piece_edges::edge_between(a, c),
         piece_edges::edge_between(b, c),
-    ) {
-        return true;
-    }
-    other_marks_are(
+    ) || other_marks_are(
         p,
         piece_edges::edge_between(a, d),
         piece_edges::edge_between(b, d),
@@ -43,18 +38,12 @@ fn is_type_p(p: Piece) -> bool
 pub fn is_set_p(p: Piece) -> bool
     ensures { result ≡ set_p (shape_of p) }
 {
-    if p.flag == 0 {
-        return false;
-    }
-    is_type_p(p)
+    p.flag != 0 && is_type_p(p)
 }
 
 // Whether the piece is of type P_u.
 pub fn is_unset_p(p: Piece) -> bool
     ensures { result ≡ unset_p (shape_of p) }
 {
-    if p.flag != 0 {
-        return false;
-    }
-    is_type_p(p)
+    p.flag == 0 && is_type_p(p)
 }

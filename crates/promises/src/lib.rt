@@ -20,10 +20,8 @@ pub fn check(mesh: &[u8]) -> Report
 fn are_i16(coordinates: &[i16])
     ensures { EachI16 coordinates.now }
 {
-    let mut i: usize = 0;
-    while i < coordinates.len() {
+    for i in 0..coordinates.len() {
         let read = coordinates[i];
-        i += 1;
     }
 }
 

@@ -3,26 +3,25 @@
 #![tactic(auto)]
 
 ghost use Rattle.std.specs.Prelude.{◌≡◌, ◌+◌, ◌<◌};
-ghost use Rattle.stored.specs.Layout.{vertex_in, record_in};
+ghost use Rattle.stored.specs.Layout.{record_in};
 ghost use Rattle.mesh_tables.specs.Tables.{tables, vertex_with, refinement_ends};
 ghost use Rattle.refine_cut.specs.Cut.{midpoint_of, cut_at};
 ghost use Rattle.refine_cut.specs.Slices.{slices, midpoint_put, children_put, cut_with};
 ghost use Rattle.refine_cut.specs.Law.{Ready};
+ghost use Rattle.stored_entries.specs.Mesh.{vertex_read};
 
 use piece::Ends;
 use stored::{Header, Layout, Record, Vertex};
+use stored_entries::Mesh;
 
 // The vertex that a cut makes on the edge with these ends.
-fn midpoint<'a>(l: Layout, base: &'a [u8], grown: &'a [u8], ends: Ends) -> Vertex
-    ensures { result ≡ midpoint_of (vertex_in l base.now grown.now) ends }
+fn midpoint(mesh: &Mesh, ends: Ends) -> Vertex
+    ensures { result ≡ midpoint_of (vertex_read mesh.now) ends }
 {
-    let one = stored_entries::vertex_in(l, base, grown, ends.lower as usize);
-    let other = stored_entries::vertex_in(l, base, grown, ends.higher as usize);
-    let one_place = one.place;
-    let other_place = other.place;
-    let place = grid::halfway(one_place, other_place);
+    let one = mesh.vertex(ends.lower as usize);
+    let other = mesh.vertex(ends.higher as usize);
     Vertex {
-        place: place,
+        place: grid::halfway(one.place, other.place),
         p: ends.lower,
         q: ends.higher,
     }
@@ -42,15 +41,17 @@ fn put_midpoint(
     if w != h.vertices {
         return h;
     }
-    let v = midpoint(l, base, grown, ends);
+    let mesh = Mesh {
+        header: h,
+        layout: l,
+        base: &*base,
+        grown: &*grown,
+    };
+    let v = midpoint(&mesh, ends);
     stored_written::put_vertex(l, base, grown, h.vertices as usize, v);
     Header {
-        job: h.job,
-        round: h.round,
-        base_vertices: h.base_vertices,
         vertices: h.vertices + 1,
-        base_records: h.base_records,
-        records: h.records,
+        ..h
     }
 }
 
@@ -66,10 +67,7 @@ fn put_children(
     requires { h.records + 2 < 4294967296 }
     ensures { slices result base.new grown.new ≡ children_put l (slices h base.old grown.old) n r w }
 {
-    let p = r.piece;
-    let two = piece_cut::cut(p, w);
-    let one = two.first;
-    let other = two.second;
+    let two = piece_cut::cut(r.piece, w);
     let first = h.records;
     stored_written::put_record(
         l,
@@ -77,8 +75,8 @@ fn put_children(
         grown,
         n,
         Record {
-            piece: p,
             first_child: first,
+            ..r
         },
     );
     stored_written::put_record(
@@ -87,7 +85,7 @@ fn put_children(
         grown,
         first as usize,
         Record {
-            piece: one,
+            piece: two.first,
             first_child: stored::NONE,
         },
     );
@@ -97,17 +95,13 @@ fn put_children(
         grown,
         first as usize + 1,
         Record {
-            piece: other,
+            piece: two.second,
             first_child: stored::NONE,
         },
     );
     Header {
-        job: h.job,
-        round: h.round,
-        base_vertices: h.base_vertices,
-        vertices: h.vertices,
-        base_records: h.base_records,
         records: first + 2,
+        ..h
     }
 }
 
@@ -116,17 +110,20 @@ pub fn cut_at(h: Header, l: Layout, base: &mut [u8], grown: &mut [u8], n: usize,
     ensures bytes { slices result base.new grown.new ≡ cut_with l (slices h base.old grown.old) n w }
     ensures cuts { Ready l (slices h base.old grown.old) n → w ≡ vertex_with (tables h l base.old grown.old) (refinement_ends (record_in l base.old grown.old n).piece) → tables result l base.new grown.new ≡ cut_at (tables h l base.old grown.old) n }
 {
-    let vertices = l.vertices;
-    let records = l.records;
-    if vertices.end <= h.vertices {
+    if l.vertices.end <= h.vertices {
         return h;
     }
-    if records.end as usize <= h.records as usize + 1 {
+    if l.records.end as usize <= h.records as usize + 1 {
         return h;
     }
-    let r = stored_entries::record_in(l, base, grown, n);
-    let p = r.piece;
-    let ends = piece::ends_of(p, p.edge);
+    let mesh = Mesh {
+        header: h,
+        layout: l,
+        base: &*base,
+        grown: &*grown,
+    };
+    let r = mesh.record(n);
+    let ends = piece::ends_of(r.piece, r.piece.edge);
     let with = put_midpoint(h, l, base, grown, ends, w);
     put_children(with, l, base, grown, n, r, w)
 }

@@ -7,7 +7,7 @@
 ghost use Rattle.std.specs.Prelude.{◌≡◌, true, ◌≤◌, ◌<◌, length};
 ghost use Rattle.laws.specs.Counts.{marked};
 ghost use Rattle.stored.specs.Layout.{numbers_reach, selection_in, named_in};
-ghost use Rattle.mesh_tables.specs.Tables.{tables, leaf_hangs};
+ghost use Rattle.mesh_tables.specs.Tables.{tables_read, tables, leaf_hangs};
 ghost use Rattle.mesh_parents.specs.Pairs.{Linked};
 ghost use Rattle.refine_selection.specs.Selected.{is_named};
 ghost use Rattle.refine_cut.specs.Slices.{slices, cut_put};
@@ -16,51 +16,42 @@ ghost use Rattle.refine_pass.specs.Puts.{turn_put, pass_put, closing_put, refine
 ghost use Rattle.refine_pass.specs.Chosen.{table_of, Chosen};
 ghost use Rattle.refine_pass.specs.Linked.{Linking, AtWork};
 
+use chains::Links;
 use stored::{Format, Header, Kind, Layout, Limits};
+use stored_entries::Mesh;
 
 // Whether there are more vertices or more records than there may be.
+#[tactic(auto, unfolding(crate::specs::Passes::exceeds))]
 pub fn exceeds(most: Limits, h: Header) -> bool
     ensures { result ≡ exceeds most h }
 {
-    if most.vertices < h.vertices {
-        return true;
-    }
-    most.records < h.records
+    most.vertices < h.vertices || most.records < h.records
 }
 
 // Record n is cut at the vertex with its refinement edge's ends for parents, which is looked for along the links.
-fn cut<'a>(
-    h: Header,
-    l: Layout,
-    base: &mut [u8],
-    grown: &mut [u8],
-    heads: &'a [u16],
-    nexts: &'a [u16],
-    n: usize,
-) -> Header
-    requires { Linked (tables h l base.old grown.old) heads.now nexts.now }
+fn cut(h: Header, l: Layout, base: &mut [u8], grown: &mut [u8], links: &Links, n: usize) -> Header
+    requires { Linked (tables h l base.old grown.old) links.now.heads.now links.now.nexts.now }
     ensures { slices result base.new grown.new ≡ cut_put l (slices h base.old grown.old) n }
 {
-    let ends = mesh_tables::refinement_ends(l, base, grown, n);
-    let w = mesh_parents::first_with(h, l, base, grown, heads, nexts, ends);
+    let mesh = Mesh {
+        header: h,
+        layout: l,
+        base: &*base,
+        grown: &*grown,
+    };
+    let ends = mesh_tables::refinement_ends(&mesh, n);
+    let w = mesh_parents::first_with(&mesh, links, ends);
     refine_cut::cut_at(h, l, base, grown, n, w as u32)
 }
 
 // A vertex more than there were is put into the links.
-fn link_fresh<'a>(
-    was: u32,
-    h: Header,
-    l: Layout,
-    base: &'a [u8],
-    grown: &'a [u8],
-    heads: &mut [u16],
-    nexts: &mut [u16],
-)
-    requires { Linking (tables h l base.now grown.now) was heads.old nexts.old }
-    ensures { Linked (tables h l base.now grown.now) heads.new nexts.new }
+fn link_fresh(was: u32, mesh: &Mesh, links: &mut Links)
+    requires { Linking (tables_read mesh.now) was links.old.heads.now links.old.nexts.now }
+    ensures linked { Linked (tables_read mesh.now) links.new.heads.now links.new.nexts.now }
+    ensures as_long { length links.new.nexts.now ≡ length links.old.nexts.now }
 {
-    if was < h.vertices {
-        mesh_parents::link_vertex(h, l, base, grown, heads, nexts, was as usize);
+    if was < mesh.header.vertices {
+        mesh_parents::link_vertex(mesh, links, was as usize);
     }
 }
 
@@ -71,20 +62,25 @@ fn turn(
     l: Layout,
     base: &mut [u8],
     grown: &mut [u8],
-    heads: &mut [u16],
-    nexts: &mut [u16],
+    links: &mut Links,
     n: usize,
 ) -> Header
-    requires at_work { AtWork most l (slices h base.old grown.old) heads.old nexts.old }
+    requires at_work { AtWork most l (slices h base.old grown.old) links.old.heads.now links.old.nexts.now }
     requires n_lt_records { n < h.records }
     ensures grown_after { slices result base.new grown.new ≡ turn_put most l true n (slices h base.old grown.old) }
-    ensures at_work_2 { AtWork most l (slices result base.new grown.new) heads.new nexts.new }
+    ensures at_work_after { AtWork most l (slices result base.new grown.new) links.new.heads.now links.new.nexts.now }
 {
     if exceeds(most, h) {
         return h;
     }
-    let with = cut(h, l, base, grown, heads, nexts, n);
-    link_fresh(h.vertices, with, l, base, grown, heads, nexts);
+    let with = cut(h, l, base, grown, links, n);
+    let mesh = Mesh {
+        header: with,
+        layout: l,
+        base: &*base,
+        grown: &*grown,
+    };
+    link_fresh(h.vertices, &mesh, links);
     with
 }
 
@@ -92,41 +88,36 @@ fn turn(
 pub fn choose_named(format: Format, chosen: &mut [u16], selection: &[u8], count: usize)
     ensures { chosen.new ≡ table_of (length chosen.old) (selection_in format selection.now) count }
 {
-    chains::clear(chosen);
-    let mut i: usize = 0;
-    while i < count {
+    chosen.fill(0);
+    for i in 0..count {
         chains::count(
             chosen,
             stored_selections::named_in(format, selection, i) as usize,
         );
-        i += 1;
     }
 }
 
 // Every leaf that has a hanging edge is chosen in the table, and no other record; whether there is one.
-fn choose_hanging<'a>(
-    h: Header,
-    l: Layout,
-    base: &'a [u8],
-    grown: &'a [u8],
-    heads: &'a [u16],
-    nexts: &'a [u16],
-    chosen: &mut [u16],
-) -> bool
-    requires linked { Linked (tables h l base.now grown.now) heads.now nexts.now }
-    requires records_in_bounds { h.records ≤ length chosen.old }
-    ensures { Chosen (leaf_hangs (tables h l base.now grown.now)) h.records chosen.new result }
+fn choose_hanging(mesh: &Mesh, links: &Links, chosen: &mut [u16]) -> bool
+    requires linked { Linked (tables_read mesh.now) links.now.heads.now links.now.nexts.now }
+    requires records_in_bounds { mesh.now.header.records ≤ length chosen.old }
+    ensures { Chosen (leaf_hangs (tables_read mesh.now)) mesh.now.header.records chosen.new result }
 {
-    let records = h.records as usize;
+    let records = mesh.header.records as usize;
     let mut some = false;
-    let mut n: usize = 0;
-    while n < records {
-        let hangs = mesh_hanging::leaf_hangs(h, l, base, grown, heads, nexts, n);
-        chosen[n] = hangs as u16;
-        some = some | hangs;
-        n += 1;
+    for n in 0..records {
+        let hangs = mesh_hanging::leaf_hangs(mesh, links, n);
+        chosen[n] = u16::from(hangs);
+        some |= hangs;
     }
     some
+}
+
+// Whether the table has chosen record n.
+fn is_chosen(chosen: &[u16], n: usize) -> bool
+    ensures { result ≡ marked chosen.now n }
+{
+    chains::at(chosen, n) != 0
 }
 
 // One pass: of the records that are there when it begins, in rising number, those that the table has chosen.
@@ -136,24 +127,19 @@ fn pass(
     l: Layout,
     base: &mut [u8],
     grown: &mut [u8],
-    heads: &mut [u16],
-    nexts: &mut [u16],
+    links: &mut Links,
     chosen: &[u16],
 ) -> Header
-    requires { AtWork most l (slices h base.old grown.old) heads.old nexts.old }
+    requires { AtWork most l (slices h base.old grown.old) links.old.heads.now links.old.nexts.now }
     ensures grown_after { slices result base.new grown.new ≡ pass_put most l (marked chosen.now) (slices h base.old grown.old) }
-    ensures at_work { AtWork most l (slices result base.new grown.new) heads.new nexts.new }
+    ensures at_work { AtWork most l (slices result base.new grown.new) links.new.heads.now links.new.nexts.now }
 {
     let records = h.records as usize;
     let mut with = h;
-    let mut n: usize = 0;
-    while n < records {
-        if chains::at(chosen, n) == 0 {
-            n += 1;
-            continue;
+    for n in 0..records {
+        if is_chosen(chosen, n) {
+            with = turn(most, with, l, base, grown, links, n);
         }
-        with = turn(most, with, l, base, grown, heads, nexts, n);
-        n += 1;
     }
     with
 }
@@ -165,25 +151,28 @@ fn close(
     l: Layout,
     base: &mut [u8],
     grown: &mut [u8],
-    heads: &mut [u16],
-    nexts: &mut [u16],
+    links: &mut Links,
     chosen: &mut [u16],
 ) -> Header
-    requires at_work { AtWork most l (slices h base.old grown.old) heads.old nexts.old }
+    requires at_work { AtWork most l (slices h base.old grown.old) links.old.heads.now links.old.nexts.now }
     requires records_in_bounds { most.records ≤ length chosen.old }
     ensures { slices result base.new grown.new ≡ closing_put most l most.records (slices h base.old grown.old) }
 {
     let mut with = h;
-    let mut left = most.records;
-    while 0 < left {
+    for _ in 0..most.records {
         if exceeds(most, with) {
             return with;
         }
-        if !choose_hanging(with, l, base, grown, heads, nexts, chosen) {
+        let mesh = Mesh {
+            header: with,
+            layout: l,
+            base: &*base,
+            grown: &*grown,
+        };
+        if !choose_hanging(&mesh, links, chosen) {
             return with;
         }
-        with = pass(most, with, l, base, grown, heads, nexts, chosen);
-        left -= 1;
+        with = pass(most, with, l, base, grown, links, chosen);
     }
     with
 }
@@ -195,20 +184,19 @@ fn passes(
     l: Layout,
     base: &mut [u8],
     grown: &mut [u8],
-    heads: &mut [u16],
-    nexts: &mut [u16],
+    links: &mut Links,
     chosen: &mut [u16],
     selection: &[u8],
     count: usize,
 ) -> Header
-    requires at_work { AtWork most l (slices h base.old grown.old) heads.old nexts.old }
+    requires at_work { AtWork most l (slices h base.old grown.old) links.old.heads.now links.old.nexts.now }
     requires records_in_bounds { h.records ≤ length chosen.old }
-    requires records_in_bounds_2 { most.records ≤ length chosen.old }
+    requires limits_in_bounds { most.records ≤ length chosen.old }
     ensures { slices result base.new grown.new ≡ refined_put most l (is_named count (named_in (selection_in l.format selection.now))) (slices h base.old grown.old) }
 {
     choose_named(l.format, chosen, selection, count);
-    let with = pass(most, h, l, base, grown, heads, nexts, chosen);
-    close(most, with, l, base, grown, heads, nexts, chosen)
+    let with = pass(most, h, l, base, grown, links, chosen);
+    close(most, with, l, base, grown, links, chosen)
 }
 
 // The same of a kind whose numbers reach far enough.
@@ -217,14 +205,13 @@ fn refined_within(
     h: Header,
     base: &mut [u8],
     grown: &mut [u8],
-    heads: &mut [u16],
-    nexts: &mut [u16],
+    links: &mut Links,
     chosen: &mut [u16],
     selection: &[u8],
     count: usize,
 ) -> Header
     requires { numbers_reach k ≡ true }
-    ensures { slices result base.new grown.new ≡ refined_within k (too_short k.limits heads.old nexts.old chosen.old) (is_named count (named_in (selection_in k.format selection.now))) (slices h base.old grown.old) }
+    ensures { slices result base.new grown.new ≡ refined_within k (too_short k.limits links.old.heads.now links.old.nexts.now chosen.old) (is_named count (named_in (selection_in k.format selection.now))) (slices h base.old grown.old) }
 {
     let most = k.limits;
     let format = k.format;
@@ -237,17 +224,21 @@ fn refined_within(
     if grown.len() < stored::record_width(format) * (most.records as usize + 2) {
         return h;
     }
-    if chains::is_short(heads, nexts, most.vertices as usize + 1) {
+    if links.is_short(most.vertices as usize + 1) {
         return h;
     }
     if chosen.len() < most.records as usize {
         return h;
     }
     let l = stored::working_layout(format, most.vertices + 1, most.records + 2);
-    mesh_parents::link_pairs(h, l, base, grown, heads, nexts);
-    passes(
-        most, h, l, base, grown, heads, nexts, chosen, selection, count,
-    )
+    let mesh = Mesh {
+        header: h,
+        layout: l,
+        base: &*base,
+        grown: &*grown,
+    };
+    mesh_parents::link_pairs(&mesh, links);
+    passes(most, h, l, base, grown, links, chosen, selection, count)
 }
 
 // All passes on tables to work on, with lists that are lent for the links and for the chosen records, whatever stands in them. Where the kind's
@@ -257,16 +248,15 @@ pub fn refined(
     h: Header,
     base: &mut [u8],
     grown: &mut [u8],
-    heads: &mut [u16],
-    nexts: &mut [u16],
+    links: &mut Links,
     chosen: &mut [u16],
     selection: &[u8],
     count: usize,
 ) -> Header
-    ensures { slices result base.new grown.new ≡ refined_within k (too_short k.limits heads.old nexts.old chosen.old) (is_named count (named_in (selection_in k.format selection.now))) (slices h base.old grown.old) }
+    ensures { slices result base.new grown.new ≡ refined_within k (too_short k.limits links.old.heads.now links.old.nexts.now chosen.old) (is_named count (named_in (selection_in k.format selection.now))) (slices h base.old grown.old) }
 {
     if !stored::numbers_reach(k) {
         return h;
     }
-    refined_within(k, h, base, grown, heads, nexts, chosen, selection, count)
+    refined_within(k, h, base, grown, links, chosen, selection, count)
 }

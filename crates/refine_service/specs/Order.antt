@@ -1,11 +1,17 @@
 -- The rules in their order, as the code tries them.
-use Rattle.std.specs.Prelude.{◌≡◌, false, [], ◌∷◌, ℕ, eqb}
+use Rattle.std.specs.Prelude.{◌≡◌, false, [], ◌∷◌, ℕ, eqb, Result}
 use Rattle.std.proofs.Math.Path.{refl, sym}
-use Rattle.std.proofs.Common.{◌∙◌}
+use Rattle.std.proofs.Common.{ap, ◌∙◌}
 use Rattle.laws.specs.Order.{row, first_broken}
 use Rattle.laws.proofs.Order.{one_after_other}
-use Rattle.stored.specs.Layout.{StoredSelection, selection_of, named_in}
+use Rattle.stored.specs.Layout.{Stored, StoredSelection, selection_of, named_in}
 use Rattle.mesh_tables.specs.Tables.{Tables}
+use Rattle.check_refusals.specs.declared.Report.{Report}
+use Rattle.check_refusals.specs.declared.Refusal.{Refusal}
+use Rattle.check_refusals.specs.Check.{check_number}
+use Rattle.check_refusals.specs.Outcomes.{outcome_number, outcome_report, report_number}
+use Rattle.check_refusals.specs.Rows.{report_number as number_reported}
+use Rattle.check_service.specs.Verdict.{VerdictIs}
 use Rattle.refine_selection.specs.Selected.{selection_rows, names_cut, names_last, round_row}
 use Rattle.refine_service.specs.Refine.{refine_selection_rows}
 
@@ -26,3 +32,7 @@ module _ (m : Tables) (t : StoredSelection) where
   pub selection_right : first_broken (selection_rows m.header t) ≡ 0 → named_number m (selection_of t).count (named_in t) ≡ selection_number m t
   unfolding selection_number refine_selection_rows selection_rows named_number
   selection_right e = sym (one_after_other (selection_rows m.header t) _ refl ∙ rw e)
+
+-- The number of the verdict is check's.
+pub verdict_number : (s : Stored) (o : Result Unit Refusal) → VerdictIs s (outcome_report o) → outcome_number o ≡ check_number s
+verdict_number s o is = sym (report_number o) ∙ ap (λ (r : Report). r.number) is ∙ number_reported s

@@ -3,8 +3,8 @@
 
 ghost use Rattle.std.specs.Prelude.{◌≡◌, false, length};
 ghost use Rattle.stored.specs.Layout.{kind1, stored1, selection_in, selection1, named_in};
-ghost use Rattle.mesh_tables.specs.Tables.{tables};
-ghost use Rattle.check_refusals.specs.Check.{check_number};
+ghost use Rattle.mesh_tables.specs.Tables.{tables_read};
+ghost use Rattle.check_refusals.specs.Outcomes.{outcome_number};
 ghost use Rattle.refine_selection.specs.Selected.{is_named};
 ghost use Rattle.refine_cut.specs.Slices.{slices};
 ghost use Rattle.refine_pass.specs.Puts.{refined_within};
@@ -12,64 +12,55 @@ ghost use Rattle.refine_service.specs.Refine.{RefineOutcomeIs};
 ghost use Rattle.refine_service.specs.Order.{selection_number, named_number};
 ghost use Rattle.refine_service.specs.Storing.{Assembled, Copied, stored_number, stored_bytes, later_number, later_bytes};
 
-use stored::{Header, Kind, Layout};
+use chains::Links;
+use check_refusals::Refusal;
+use stored::{Header, Kind};
+use stored_entries::Mesh;
 
-// Refusals 1 to 10, 22 and 23 are check's own.
-pub fn judged(mesh: &[u8]) -> u32
-    ensures { result ≡ check_number (stored1 mesh.now) }
+// Refusals 16 to 18, tried in their order.
+fn named(mesh: &Mesh, selection: &[u8], count: usize) -> Result<(), Refusal>
+    ensures { outcome_number result ≡ named_number (tables_read mesh.now) count (named_in (selection_in mesh.now.layout.format selection.now)) }
 {
-    let report = check_service::verdict(mesh);
-    report.number as u32
-}
-
-// Refusals 16 to 18, tried in their order, and 0 where none is broken.
-fn named<'a>(
-    h: Header,
-    l: Layout,
-    base: &'a [u8],
-    grown: &'a [u8],
-    selection: &'a [u8],
-    count: usize,
-) -> u32
-    ensures { result ≡ named_number (tables h l base.now grown.now) count (named_in (selection_in l.format selection.now)) }
-{
-    if refine_selection::names_cut(l, base, grown, selection, count) {
-        return 16;
+    if refine_selection::names_cut(mesh, selection, count) {
+        return Err(Refusal::NamesCut);
     }
-    if refine_selection::names_last(l, base, grown, selection, count) {
-        return 17;
+    if refine_selection::names_last(mesh, selection, count) {
+        return Err(Refusal::NamesLast);
     }
-    if h.round == stored::LAST_ROUND {
-        return 18;
+    if mesh.header.round == stored::LAST_ROUND {
+        return Err(Refusal::LastRound);
     }
-    0
+    Ok(())
 }
 
 // Refusals 11 to 18.
-fn selected<'a>(h: Header, l: Layout, base: &'a [u8], grown: &'a [u8], selection: &'a [u8]) -> u32
-    ensures { result ≡ selection_number (tables h l base.now grown.now) (selection_in l.format selection.now) }
+fn selected(mesh: &Mesh, selection: &[u8]) -> Result<(), Refusal>
+    ensures { outcome_number result ≡ selection_number (tables_read mesh.now) (selection_in mesh.now.layout.format selection.now) }
 {
-    let format = l.format;
-    let wrong = refine_selection::wrong_selection(format, h, selection);
-    if wrong != 0 {
-        return wrong;
-    }
+    let format = mesh.layout.format;
+    refine_selection::judged_selection(format, mesh.header, selection)?;
     let s = stored_selections::selection_of(format, selection);
-    named(h, l, base, grown, selection, s.count as usize)
+    named(mesh, selection, s.count as usize)
 }
 
 // Refusals 19 and 20, or the mesh.
-fn finish<'a>(k: Kind, h: Header, vertices: &'a [u8], records: &'a [u8], out: &mut [u8]) -> u32
+fn finish(
+    k: Kind,
+    h: Header,
+    vertices: &[u8],
+    records: &[u8],
+    out: &mut [u8],
+) -> Result<(), Refusal>
     requires { Assembled k h vertices.now records.now out.old }
-    ensures value { result ≡ stored_number k h (length out.old) }
+    ensures value { outcome_number result ≡ stored_number k h (length out.old) }
     ensures out_after { out.new ≡ stored_bytes k h vertices.now records.now (length out.old) }
 {
     let format = k.format;
     if refine_pass::exceeds(k.limits, h) {
-        return 19;
+        return Err(Refusal::Exceeds);
     }
     if out.len() < stored_headers::mesh_length(format, h.vertices, h.records) {
-        return 20;
+        return Err(Refusal::TooShort);
     }
     stored_written::put_mesh(
         format,
@@ -78,7 +69,7 @@ fn finish<'a>(k: Kind, h: Header, vertices: &'a [u8], records: &'a [u8], out: &m
         vertices,
         records,
     );
-    0
+    Ok(())
 }
 
 // The passes' working memory is made here, and lent to them.
@@ -99,8 +90,10 @@ fn refined(
         h,
         vertices,
         records,
-        &mut heads,
-        &mut nexts,
+        &mut Links {
+            heads: &mut heads,
+            nexts: &mut nexts,
+        },
         &mut chosen,
         selection,
         count,
@@ -108,9 +101,9 @@ fn refined(
 }
 
 // The passes are made aside, since there may be no room for what they leave.
-fn store(mesh: &[u8], h: Header, selection: &[u8], out: &mut [u8]) -> u32
+fn store(mesh: &[u8], h: Header, selection: &[u8], out: &mut [u8]) -> Result<(), Refusal>
     requires { Copied h (stored1 mesh.now) out.old }
-    ensures value { result ≡ later_number (stored1 mesh.now) (selection1 selection.now) (length out.old) }
+    ensures value { outcome_number result ≡ later_number (stored1 mesh.now) (selection1 selection.now) (length out.old) }
     ensures out_after { out.new ≡ later_bytes (stored1 mesh.now) (selection1 selection.now) (length out.old) }
 {
     let mut vertices = [0u8; stored::WORKING_VERTEX_BYTES];
@@ -123,19 +116,19 @@ fn store(mesh: &[u8], h: Header, selection: &[u8], out: &mut [u8]) -> u32
     finish(k, with, &vertices, &records, out)
 }
 
-pub fn refine<'a>(mesh: &'a [u8], selection: &'a [u8], out: &mut [u8]) -> u32
-    ensures { RefineOutcomeIs (stored1 mesh.now) (selection1 selection.now) (length out.old) result out.new }
+pub fn refine(mesh: &[u8], selection: &[u8], out: &mut [u8]) -> Result<(), Refusal>
+    ensures { RefineOutcomeIs (stored1 mesh.now) (selection1 selection.now) (length out.old) (outcome_number result) out.new }
 {
-    slices_written::clear(out);
-    let found = judged(mesh);
-    if found != 0 {
-        return found;
-    }
+    out.fill(0);
+    check_service::verdict(mesh)?;
     let k = stored::kind_1();
     let h = stored_headers::header_from(k.format, mesh);
-    let refusal = selected(h, stored::layout_of(k, h), mesh, &mesh[..0], selection);
-    if refusal != 0 {
-        return refusal;
-    }
+    let read = Mesh {
+        header: h,
+        layout: stored::layout_of(k, h),
+        base: mesh,
+        grown: &mesh[..0],
+    };
+    selected(&read, selection)?;
     store(mesh, h, selection, out)
 }

@@ -3,7 +3,7 @@
 #![tactic(auto)]
 
 use std::io;
-use stored::Layout;
+use stored_entries::Mesh;
 
 fn print_figure(rt: &impl Print, name: &[u8], figure: u64) -> io::Result<()> {
     rt.write_all(name)?;
@@ -25,34 +25,30 @@ fn print_marks(rt: &impl Print, edge: u8, marks: [u8; 4]) -> io::Result<()> {
     print_figure(rt, b" ", marks[3] as u64)
 }
 
-fn print_record(rt: &impl Print, l: Layout, mesh: &[u8], n: usize) -> io::Result<()> {
-    let nothing = &mesh[..0];
-    let record = stored_entries::record_in(l, mesh, nothing, n);
-    let p = record.piece;
-    let ends = mesh_tables::refinement_ends(l, mesh, nothing, n);
+fn print_record(rt: &impl Print, mesh: &Mesh, n: usize) -> io::Result<()> {
+    let p = mesh.record(n).piece;
+    let ends = mesh_tables::refinement_ends(mesh, n);
     print_figure(rt, b"  record ", n as u64)?;
-    let corners = p.corners;
-    print_corners(rt, corners)?;
-    let marks = p.marks;
-    print_marks(rt, p.edge, marks)?;
+    print_corners(rt, p.corners)?;
+    print_marks(rt, p.edge, p.marks)?;
     print_figure(rt, b" cut next at ", ends.lower as u64)?;
     print_figure(rt, b"-", ends.higher as u64)?;
-    print_figure(
-        rt,
-        b" sixfold ",
-        check_figures::sixfold_at(l, mesh, nothing, n),
-    )?;
+    print_figure(rt, b" sixfold ", check_figures::sixfold_at(mesh, n))?;
     rt.write_all(b"\n")
 }
 
 fn print_leaves(rt: &impl Print, mesh: &[u8]) -> io::Result<()> {
     let k = stored::kind_1();
     let h = stored_headers::header_from(k.format, mesh);
-    let l = stored::layout_of(k, h);
-    let count = h.records as usize;
-    for n in 0..count {
-        if mesh_tables::is_leaf(l, mesh, &mesh[..0], n) {
-            print_record(rt, l, mesh, n)?;
+    let read = Mesh {
+        header: h,
+        layout: stored::layout_of(k, h),
+        base: mesh,
+        grown: &mesh[..0],
+    };
+    for n in 0..h.records as usize {
+        if mesh_tables::is_leaf(&read, n) {
+            print_record(rt, &read, n)?;
         }
     }
     Ok(())
@@ -85,7 +81,7 @@ fn built(
     out: &mut [u8],
 ) -> io::Result<()> {
     rt.write_all(row)?;
-    let number = build_service::build(7, coordinates, corners, out);
+    let number = check_refusals::outcome_number(build_service::build(7, coordinates, corners, out));
     shown(rt, b": build ", number, out)
 }
 
@@ -97,7 +93,7 @@ fn refined<'a>(
     out: &mut [u8],
 ) -> io::Result<()> {
     rt.write_all(row)?;
-    let number = refine_service::refine(mesh, selection, out);
+    let number = check_refusals::outcome_number(refine_service::refine(mesh, selection, out));
     shown(rt, b": refine ", number, out)
 }
 

@@ -21,7 +21,7 @@ pub fn part(s: &[u8], at: usize, n: usize) -> &[u8]
     ensures { result.now ≡ take n (drop at s.now) }
 {
     let rest = after(s, at);
-    if n <= rest.len() { &rest[..n] } else { rest }
+    &rest[..n.min(rest.len())]
 }
 
 // The little-endian number of two bytes.
@@ -29,7 +29,7 @@ pub fn pair(low: u8, high: u8) -> u32
     ensures value { result ≡ low + 256 * high }
     ensures upper_bound { result < 65536 }
 {
-    (low as u32) + 256 * (high as u32)
+    u32::from(u16::from_le_bytes([low, high]))
 }
 
 // That of the two bytes from at on, with one test where both are there.
@@ -37,22 +37,19 @@ pub fn two(s: &[u8], at: usize) -> u32
     ensures value { result ≡ number 2 (drop at s.now) }
     ensures upper_bound { result < 65536 }
 {
-    if s.len() < 2 {
-        return byte(s, at) as u32;
+    if s.len() >= 2 && at <= s.len() - 2 {
+        pair(s[at], s[at + 1])
+    } else {
+        u32::from(byte(s, at))
     }
-    if at <= s.len() - 2 {
-        return pair(s[at], s[at + 1]);
-    }
-    byte(s, at) as u32
 }
 
+// Kept: by halves, each with one test where it is there: byte by byte, by `from_le_bytes`, it takes longer.
 pub fn four(s: &[u8], at: usize) -> u32
     ensures { result ≡ number 4 (drop at s.now) }
 {
     let rest = after(s, at);
-    let low = two(rest, 0);
-    let high = two(rest, 2);
-    low + 65536 * high
+    two(rest, 0) + 65536 * two(rest, 2)
 }
 
 // Entry i of a table whose entries have one width, and what follows it.

@@ -23,21 +23,21 @@ pub extern "C" fn tmb_check(mesh: &[u8]) -> Report
 pub extern "C" fn tmb_build(job: u32, coordinates: &[i16], corners: &[u16], out: &mut [u8]) -> u32
     ensures { BuildOutcomeIs job coordinates.now corners.now (length out.old) result out.new }
 {
-    build_service::build(job, coordinates, corners, out)
+    check_refusals::outcome_number(build_service::build(job, coordinates, corners, out))
 }
 
 #[unsafe(no_mangle)]
 pub extern "C" fn tmb_refine<'a>(mesh: &'a [u8], selection: &'a [u8], out: &mut [u8]) -> u32
     ensures { RefineOutcomeIs (stored1 mesh.now) (selection1 selection.now) (length out.old) result out.new }
 {
-    refine_service::refine(mesh, selection, out)
+    check_refusals::outcome_number(refine_service::refine(mesh, selection, out))
 }
 
 #[unsafe(no_mangle)]
 pub extern "C" fn tmb_take_back<'a>(mesh: &'a [u8], request: &'a [u8], out: &mut [u8]) -> u32
     ensures { TakeBackOutcomeIs (stored1 mesh.now) (selection1 request.now) (length out.old) result out.new }
 {
-    takeback_service::take_back(mesh, request, out)
+    check_refusals::outcome_number(takeback_service::take_back(mesh, request, out))
 }
 
 #[unsafe(no_mangle)]

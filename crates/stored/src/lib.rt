@@ -64,6 +64,7 @@ pub const WORKING_RECORD_BYTES: usize = (RECORDS + 2) * RECORD_WIDTH;
 pub const LAST_ROUND: u32 = 65535;
 
 // In memory, for no parent and for no child: no vertex and no record of any version has this number.
+// Kept: a number and no Option, since `uncut`, `or_none` and the demands' pages speak of `none`, and a record stays plain numbers.
 pub const NONE: u32 = 4294967295;
 
 // How none is stored where numbers have two bytes. Where they have four, it is stored as it is.
@@ -167,11 +168,7 @@ pub fn record_width(f: Format) -> usize
     ensures value { result ≡ record_width f }
     ensures upper_bound { result ≤ 28 }
 {
-    let width = number_width(f) * 5 + 7;
-    if f.material {
-        return width + 1;
-    }
-    width
+    number_width(f) * 5 + 7 + usize::from(f.material)
 }
 
 // Where a record's fields begin after its corners.
@@ -186,12 +183,12 @@ pub fn version_of(f: Format) -> u32
     ensures { result ≡ version_of f }
 {
     if f.wide {
-        return 3;
+        3
+    } else if f.material {
+        2
+    } else {
+        1
     }
-    if f.material {
-        return 2;
-    }
-    1
 }
 
 pub fn version_1() -> Format
@@ -231,18 +228,13 @@ pub fn stored_none(f: Format) -> u32
 }
 
 // Whether the numbers of a kind reach as far as its limits do, with the one vertex and the two records more that a cut can make.
+#[tactic(auto, unfolding(crate::specs::Layout::numbers_reach))]
 pub fn numbers_reach(k: Kind) -> bool
     ensures { result ≡ numbers_reach k }
 {
     let most = k.limits;
     let none = stored_none(k.format) as usize;
-    if none <= most.vertices as usize + 1 {
-        return false;
-    }
-    if none <= most.records as usize + 2 {
-        return false;
-    }
-    true
+    most.vertices as usize + 1 < none && most.records as usize + 2 < none
 }
 
 // How many of so many in all, the first of them in the base, stand in the base slice, and how many in the growth slice.
@@ -255,12 +247,7 @@ pub fn in_base(two: bool, base: u32, all: u32) -> u32
 pub fn in_growth(two: bool, base: u32, all: u32) -> u32
     ensures { result ≡ in_growth two base all }
 {
-    if two {
-        if base < all {
-            return all - base;
-        }
-    }
-    0
+    if two { all.saturating_sub(base) } else { 0 }
 }
 
 // Where the tables of a stored mesh with this header stand: after the header all vertices, and all records after them; of a mesh in two
@@ -286,9 +273,9 @@ pub fn layout_of(k: Kind, h: Header) -> Layout
         grown: wide * (in_growth(k.two, h.base_vertices, h.vertices) as usize),
     };
     Layout {
-        format: format,
-        vertices: vertices,
-        records: records,
+        format,
+        vertices,
+        records,
     }
 }
 
@@ -312,7 +299,7 @@ pub fn working_layout(format: Format, vertices: u32, records: u32) -> Layout
         grown: 0,
     };
     Layout {
-        format: format,
+        format,
         vertices: in_base_slice,
         records: in_growth_slice,
     }

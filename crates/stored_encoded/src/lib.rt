@@ -1,9 +1,10 @@
-// The bytes of a header, a vertex and a record of any format, each in an array with room for the widest. Past the width stand zeros, and
-// before them a record's material where the format has none.
+// The bytes of a header, a vertex and a record of any format, each in an array with room for the widest. What stands past the width means nothing.
 #![tactic(auto)]
 
-ghost use Rattle.std.specs.Prelude.{◌≡◌, take};
+ghost use Rattle.std.specs.Prelude.{◌≡◌, ◌+◌, ◌≤◌, length, take};
+ghost use Rattle.std.proofs.lemmas.List.Edits.{sets};
 ghost use Rattle.stored.specs.Layout.{
+  u32_bytes,
   stored_or_none,
   header_width,
   header_bytes,
@@ -15,89 +16,44 @@ ghost use Rattle.stored.specs.Layout.{
 
 use stored::{Format, Header, Record, Vertex};
 
+// A number's four bytes, whatever its width: what is put after it stands over those that it doesn't have.
+fn put(bytes: &mut [u8], at: usize, n: u32)
+    requires { at + 4 ≤ length bytes.old }
+    ensures { bytes.new ≡ sets bytes.old at (u32_bytes n) }
+{
+    let [first, second, third, fourth] = n.to_le_bytes();
+    bytes[at] = first;
+    bytes[at + 1] = second;
+    bytes[at + 2] = third;
+    bytes[at + 3] = fourth;
+}
+
 pub fn header_bytes(format: Format, h: Header) -> [u8; stored::WIDEST_HEADER]
     ensures { take (header_width format) result ≡ header_bytes format h }
 {
-    let version = stored::version_of(format);
-    let job = h.job;
-    let round = h.round;
-    let base_vertices = h.base_vertices;
-    let vertices = h.vertices;
-    let base_records = h.base_records;
-    let records = h.records;
-    if format.wide {
-        return [
-            b'T',
-            b'M',
-            b'B',
-            (version % 256) as u8,
-            (version / 256 % 256) as u8,
-            (job % 256) as u8,
-            (job / 256 % 256) as u8,
-            (job / 256 / 256 % 256) as u8,
-            (job / 256 / 256 / 256 % 256) as u8,
-            (round % 256) as u8,
-            (round / 256 % 256) as u8,
-            (base_vertices % 256) as u8,
-            (base_vertices / 256 % 256) as u8,
-            (base_vertices / 256 / 256 % 256) as u8,
-            (base_vertices / 256 / 256 / 256 % 256) as u8,
-            (vertices % 256) as u8,
-            (vertices / 256 % 256) as u8,
-            (vertices / 256 / 256 % 256) as u8,
-            (vertices / 256 / 256 / 256 % 256) as u8,
-            (base_records % 256) as u8,
-            (base_records / 256 % 256) as u8,
-            (base_records / 256 / 256 % 256) as u8,
-            (base_records / 256 / 256 / 256 % 256) as u8,
-            (records % 256) as u8,
-            (records / 256 % 256) as u8,
-            (records / 256 / 256 % 256) as u8,
-            (records / 256 / 256 / 256 % 256) as u8,
-            0,
-        ];
-    }
-    [
-        b'T',
-        b'M',
-        b'B',
-        (version % 256) as u8,
-        (version / 256 % 256) as u8,
-        (job % 256) as u8,
-        (job / 256 % 256) as u8,
-        (job / 256 / 256 % 256) as u8,
-        (job / 256 / 256 / 256 % 256) as u8,
-        (round % 256) as u8,
-        (round / 256 % 256) as u8,
-        (base_vertices % 256) as u8,
-        (base_vertices / 256 % 256) as u8,
-        (vertices % 256) as u8,
-        (vertices / 256 % 256) as u8,
-        (base_records % 256) as u8,
-        (base_records / 256 % 256) as u8,
-        (records % 256) as u8,
-        (records / 256 % 256) as u8,
-        0,
-        0,
-        0,
-        0,
-        0,
-        0,
-        0,
-        0,
-        0,
-    ]
+    let wide = stored::number_width(format);
+    let mut bytes = [0; stored::WIDEST_HEADER];
+    bytes[0] = b'T';
+    bytes[1] = b'M';
+    bytes[2] = b'B';
+    put(&mut bytes, 3, stored::version_of(format));
+    put(&mut bytes, 5, h.job);
+    put(&mut bytes, 9, h.round);
+    put(&mut bytes, 11, h.base_vertices);
+    put(&mut bytes, 11 + wide, h.vertices);
+    put(&mut bytes, 11 + wide * 2, h.base_records);
+    put(&mut bytes, 11 + wide * 3, h.records);
+    bytes[11 + wide * 4] = 0;
+    bytes
 }
 
 // How a vertex or record number, which may be none, is stored.
+#[tactic(auto, unfolding(stored::specs::Layout::stored_or_none))]
 fn stored_or_none(format: Format, n: u32) -> u32
     ensures { result ≡ stored_or_none format n }
 {
-    if format.wide {
-        return n;
-    }
     if n == stored::NONE {
-        stored::STORED_NONE
+        stored::stored_none(format)
     } else {
         n
     }
@@ -106,119 +62,45 @@ fn stored_or_none(format: Format, n: u32) -> u32
 pub fn vertex_bytes(format: Format, v: Vertex) -> [u8; stored::WIDEST_VERTEX]
     ensures { take (vertex_width format) result ≡ vertex_bytes format v }
 {
-    let place = v.place;
-    let p = stored_or_none(format, v.p);
-    let q = stored_or_none(format, v.q);
-    let x = (place.x as u32 + grid::SHIFT) % 65536;
-    let y = (place.y as u32 + grid::SHIFT) % 65536;
-    let z = (place.z as u32 + grid::SHIFT) % 65536;
-    if format.wide {
-        return [
-            (x % 256) as u8,
-            (x / 256 % 256) as u8,
-            (y % 256) as u8,
-            (y / 256 % 256) as u8,
-            (z % 256) as u8,
-            (z / 256 % 256) as u8,
-            (p % 256) as u8,
-            (p / 256 % 256) as u8,
-            (p / 256 / 256 % 256) as u8,
-            (p / 256 / 256 / 256 % 256) as u8,
-            (q % 256) as u8,
-            (q / 256 % 256) as u8,
-            (q / 256 / 256 % 256) as u8,
-            (q / 256 / 256 / 256 % 256) as u8,
-        ];
-    }
-    [
-        (x % 256) as u8,
-        (x / 256 % 256) as u8,
-        (y % 256) as u8,
-        (y / 256 % 256) as u8,
-        (z % 256) as u8,
-        (z / 256 % 256) as u8,
-        (p % 256) as u8,
-        (p / 256 % 256) as u8,
-        (q % 256) as u8,
-        (q / 256 % 256) as u8,
-        0,
-        0,
-        0,
-        0,
-    ]
+    let mut bytes = [0; stored::WIDEST_VERTEX];
+    put(&mut bytes, 0, (u32::from(v.place.x) + grid::SHIFT) % 65536);
+    put(&mut bytes, 2, (u32::from(v.place.y) + grid::SHIFT) % 65536);
+    put(&mut bytes, 4, (u32::from(v.place.z) + grid::SHIFT) % 65536);
+    put(&mut bytes, 6, stored_or_none(format, v.p));
+    put(
+        &mut bytes,
+        6 + stored::number_width(format),
+        stored_or_none(format, v.q),
+    );
+    bytes
 }
 
 pub fn record_bytes(format: Format, r: Record) -> [u8; stored::WIDEST_RECORD]
     ensures { take (record_width format) result ≡ record_bytes format r }
 {
-    let piece = r.piece;
-    let corners = piece.corners;
-    let marks = piece.marks;
-    let first = stored_or_none(format, corners[0]);
-    let second = stored_or_none(format, corners[1]);
-    let third = stored_or_none(format, corners[2]);
-    let fourth = stored_or_none(format, corners[3]);
-    let child = stored_or_none(format, r.first_child);
-    if format.wide {
-        return [
-            (first % 256) as u8,
-            (first / 256 % 256) as u8,
-            (first / 256 / 256 % 256) as u8,
-            (first / 256 / 256 / 256 % 256) as u8,
-            (second % 256) as u8,
-            (second / 256 % 256) as u8,
-            (second / 256 / 256 % 256) as u8,
-            (second / 256 / 256 / 256 % 256) as u8,
-            (third % 256) as u8,
-            (third / 256 % 256) as u8,
-            (third / 256 / 256 % 256) as u8,
-            (third / 256 / 256 / 256 % 256) as u8,
-            (fourth % 256) as u8,
-            (fourth / 256 % 256) as u8,
-            (fourth / 256 / 256 % 256) as u8,
-            (fourth / 256 / 256 / 256 % 256) as u8,
-            piece.edge,
-            marks[0],
-            marks[1],
-            marks[2],
-            marks[3],
-            piece.flag,
-            piece.generation,
-            (child % 256) as u8,
-            (child / 256 % 256) as u8,
-            (child / 256 / 256 % 256) as u8,
-            (child / 256 / 256 / 256 % 256) as u8,
-            piece.material,
-        ];
-    }
-    [
-        (first % 256) as u8,
-        (first / 256 % 256) as u8,
-        (second % 256) as u8,
-        (second / 256 % 256) as u8,
-        (third % 256) as u8,
-        (third / 256 % 256) as u8,
-        (fourth % 256) as u8,
-        (fourth / 256 % 256) as u8,
-        piece.edge,
-        marks[0],
-        marks[1],
-        marks[2],
-        marks[3],
-        piece.flag,
-        piece.generation,
-        (child % 256) as u8,
-        (child / 256 % 256) as u8,
-        piece.material,
-        0,
-        0,
-        0,
-        0,
-        0,
-        0,
-        0,
-        0,
-        0,
-        0,
-    ]
+    let wide = stored::number_width(format);
+    let at = stored::edge_at(format);
+    let mut bytes = [0; stored::WIDEST_RECORD];
+    put(&mut bytes, 0, stored_or_none(format, r.piece.corners[0]));
+    put(&mut bytes, wide, stored_or_none(format, r.piece.corners[1]));
+    put(
+        &mut bytes,
+        wide * 2,
+        stored_or_none(format, r.piece.corners[2]),
+    );
+    put(
+        &mut bytes,
+        wide * 3,
+        stored_or_none(format, r.piece.corners[3]),
+    );
+    bytes[at] = r.piece.edge;
+    bytes[at + 1] = r.piece.marks[0];
+    bytes[at + 2] = r.piece.marks[1];
+    bytes[at + 3] = r.piece.marks[2];
+    bytes[at + 4] = r.piece.marks[3];
+    bytes[at + 5] = r.piece.flag;
+    bytes[at + 6] = r.piece.generation;
+    put(&mut bytes, at + 7, stored_or_none(format, r.first_child));
+    bytes[at + 7 + wide] = r.piece.material;
+    bytes
 }

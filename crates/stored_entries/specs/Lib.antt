@@ -1,2 +1,3 @@
--- What the readers of entries rest on.
+-- A mesh's vertices and records, and what the readers of entries rest on.
 pub mod Formats
+pub mod Mesh

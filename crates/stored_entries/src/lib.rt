@@ -1,11 +1,12 @@
 // The vertices and records of a mesh's tables in every format, read one by one: whole, or one field alone.
-#![tactic(auto)]
+#![tactic(auto, using(laws::specs::Numbers::number_two), unfolding(stored::specs::Layout::or_none, stored::specs::Layout::vertex_from, stored::specs::Layout::record_from, stored::specs::Layout::vertex_in, stored::specs::Layout::record_in))]
 
 ghost use Rattle.std.specs.Prelude.{◌≡◌, ◌+◌, ◌*◌, ◌≤◌, ◌<◌, [], ◌∷◌, length, get_or, take, drop};
 ghost use Rattle.piece.specs.Shape.{shape_of, mark};
 ghost use Rattle.piece.specs.Ends.{corner_at};
 ghost use Rattle.stored.specs.Layout.{
   version1,
+  byte_at,
   u16_at,
   u32_at,
   number_width,
@@ -16,19 +17,18 @@ ghost use Rattle.stored.specs.Layout.{
   or_none,
   held_in,
   vertex_from,
-  vertex_in,
   parents_of,
   edge_at,
   corners_from,
   marks_from,
   material_from,
   record_from,
-  record_in,
 };
+ghost use Rattle.stored_entries.specs.Mesh.{vertex_read, record_read};
 
 use grid::Place;
 use piece::{Ends, Piece};
-use stored::{Format, Layout, Record, Table, Vertex};
+use stored::{Format, Header, Layout, Record, Table, Vertex};
 
 // Entry i of the entries of one width that begin at from, as far as it is there.
 fn entry_from(s: &[u8], from: usize, wide: usize, i: usize) -> &[u8]
@@ -61,20 +61,6 @@ pub fn held<'a>(t: Table, base: &'a [u8], grown: &'a [u8], i: usize) -> &'a [u8]
     entry_from(grown, t.grown, t.width as usize, j)
 }
 
-fn vertex_held<'a>(l: Layout, base: &'a [u8], grown: &'a [u8], i: usize) -> &'a [u8]
-    ensures { result.now ≡ held_in l.vertices base.now grown.now i }
-{
-    let vertices = l.vertices;
-    held(vertices, base, grown, i)
-}
-
-fn record_held<'a>(l: Layout, base: &'a [u8], grown: &'a [u8], i: usize) -> &'a [u8]
-    ensures { result.now ≡ held_in l.records base.now grown.now i }
-{
-    let records = l.records;
-    held(records, base, grown, i)
-}
-
 // The number of two bytes that are there, with no test.
 fn two_of(s: &[u8], at: usize) -> u32
     requires { at + 1 < length s.now }
@@ -89,9 +75,7 @@ fn four_of(s: &[u8], at: usize) -> u32
     requires { at + 3 < length s.now }
     ensures { result ≡ u32_at s.now at }
 {
-    let low = two_of(s, at);
-    let high = two_of(s, at + 2);
-    low + 65536 * high
+    u32::from_le_bytes([s[at], s[at + 1], s[at + 2], s[at + 3]])
 }
 
 // A coordinate, as its place.
@@ -119,28 +103,9 @@ fn or_none(n: u32) -> u32
     }
 }
 
-// A vertex or record number of the format: of four bytes it is read as it is, none or not.
-fn number_or_none(format: Format, s: &[u8], at: usize) -> u32
-    ensures { result ≡ or_none format (number_at format s.now at) }
-{
-    if format.wide {
-        return slices::four(s, at);
-    }
-    or_none(slices::two(s, at))
-}
-
-// The same where its bytes are all there, with no test.
-fn whole_number(format: Format, s: &[u8], at: usize) -> u32
-    requires { at + number_width format ≤ length s.now }
-    ensures { result ≡ or_none format (number_at format s.now at) }
-{
-    if format.wide {
-        return four_of(s, at);
-    }
-    or_none(two_of(s, at))
-}
-
 // Where a vertex stands, in every format alike, whose bytes may end early: coordinate by coordinate.
+// Kept: here and below what may end early has one reader and what is all there another, for speed: an entry's length is tested once
+// (docs/requests/14-quicker-closing.md).
 fn short_place(entry: &[u8]) -> Place
     ensures { result ≡ (vertex_from version1 entry.now).place }
 {
@@ -172,103 +137,6 @@ fn place_from(entry: &[u8]) -> Place
     whole_place(entry)
 }
 
-// A vertex whose bytes may end early, field by field.
-fn short_vertex(format: Format, entry: &[u8]) -> Vertex
-    ensures { result ≡ vertex_from format entry.now }
-{
-    let place = short_place(entry);
-    Vertex {
-        place: place,
-        p: number_or_none(format, entry, 6),
-        q: number_or_none(format, entry, 6 + stored::number_width(format)),
-    }
-}
-
-// Parents that are all there.
-fn whole_parents(format: Format, entry: &[u8]) -> Ends
-    requires { vertex_width format ≤ length entry.now }
-    ensures { result ≡ parents_of (vertex_from format entry.now) }
-{
-    if format.wide {
-        return Ends {
-            lower: four_of(entry, 6),
-            higher: four_of(entry, 10),
-        };
-    }
-    Ends {
-        lower: or_none(two_of(entry, 6)),
-        higher: or_none(two_of(entry, 8)),
-    }
-}
-
-// A vertex that is all there.
-fn whole_vertex(format: Format, entry: &[u8]) -> Vertex
-    requires { vertex_width format ≤ length entry.now }
-    ensures { result ≡ vertex_from format entry.now }
-{
-    let place = whole_place(entry);
-    let parents = whole_parents(format, entry);
-    Vertex {
-        place: place,
-        p: parents.lower,
-        q: parents.higher,
-    }
-}
-
-fn vertex_from(format: Format, entry: &[u8]) -> Vertex
-    ensures { result ≡ vertex_from format entry.now }
-{
-    if entry.len() < stored::vertex_width(format) {
-        return short_vertex(format, entry);
-    }
-    whole_vertex(format, entry)
-}
-
-// Parents alone.
-fn parents_from(format: Format, entry: &[u8]) -> Ends
-    ensures { result ≡ parents_of (vertex_from format entry.now) }
-{
-    Ends {
-        lower: number_or_none(format, entry, 6),
-        higher: number_or_none(format, entry, 6 + stored::number_width(format)),
-    }
-}
-
-pub fn vertex_in<'a>(l: Layout, base: &'a [u8], grown: &'a [u8], i: usize) -> Vertex
-    ensures { result ≡ vertex_in l base.now grown.now i }
-{
-    let format = l.format;
-    vertex_from(format, vertex_held(l, base, grown, i))
-}
-
-// Where a vertex stands, alone.
-pub fn place_in<'a>(l: Layout, base: &'a [u8], grown: &'a [u8], i: usize) -> Place
-    ensures { result ≡ (vertex_in l base.now grown.now i).place }
-{
-    place_from(vertex_held(l, base, grown, i))
-}
-
-// A vertex's parents alone, for searches.
-pub fn parents_in<'a>(l: Layout, base: &'a [u8], grown: &'a [u8], i: usize) -> Ends
-    ensures { result ≡ parents_of (vertex_in l base.now grown.now i) }
-{
-    let format = l.format;
-    parents_from(format, vertex_held(l, base, grown, i))
-}
-
-// The corners of a record whose bytes may end early, one by one.
-fn short_corners(format: Format, entry: &[u8]) -> [u32; 4]
-    ensures { result ≡ corners_from format entry.now }
-{
-    let wide = stored::number_width(format);
-    [
-        number_or_none(format, entry, 0),
-        number_or_none(format, entry, wide),
-        number_or_none(format, entry, wide * 2),
-        number_or_none(format, entry, wide * 3),
-    ]
-}
-
 // Corners of two bytes each that are all there.
 fn narrow_corners(entry: &[u8]) -> [u32; 4]
     requires { 8 ≤ length entry.now }
@@ -295,196 +163,339 @@ fn wide_corners(entry: &[u8]) -> [u32; 4]
     ]
 }
 
-fn whole_corners(format: Format, entry: &[u8]) -> [u32; 4]
-    requires { edge_at format ≤ length entry.now }
-    ensures { result ≡ corners_from format entry.now }
-{
-    if format.wide {
-        return wide_corners(entry);
+// The bytes of a vertex or of a record, as far as they are there, and the format that they are read in.
+#[derive(Clone, Copy)]
+struct Entry<'a> {
+    format: Format,
+    bytes: &'a [u8],
+}
+
+impl<'a> Entry<'a> {
+    // A vertex or record number of the format: of four bytes it is read as it is, none or not.
+    fn number_or_none(&self, at: usize) -> u32
+        ensures { result ≡ or_none self.now.format (number_at self.now.format self.now.bytes.now at) }
+    {
+        if self.format.wide {
+            return slices::four(self.bytes, at);
+        }
+        or_none(slices::two(self.bytes, at))
     }
-    narrow_corners(entry)
-}
 
-fn corners_from(format: Format, entry: &[u8]) -> [u32; 4]
-    ensures { result ≡ corners_from format entry.now }
-{
-    if entry.len() < stored::edge_at(format) {
-        return short_corners(format, entry);
+    // The same where its bytes are all there, with no test.
+    fn whole_number(&self, at: usize) -> u32
+        requires { at + number_width self.now.format ≤ length self.now.bytes.now }
+        ensures { result ≡ or_none self.now.format (number_at self.now.format self.now.bytes.now at) }
+    {
+        if self.format.wide {
+            return four_of(self.bytes, at);
+        }
+        or_none(two_of(self.bytes, at))
     }
-    whole_corners(format, entry)
-}
 
-// The corner in slot k, alone.
-fn corner_from(format: Format, entry: &[u8], k: u8) -> u32
-    requires { k < 4 }
-    ensures { result ≡ get_or (corners_from format entry.now) k 0 }
-{
-    number_or_none(format, entry, stored::number_width(format) * (k as usize))
-}
-
-fn marks_from(format: Format, entry: &[u8]) -> [u8; 4]
-    ensures { result ≡ marks_from format entry.now }
-{
-    let at = stored::edge_at(format);
-    [
-        slices::byte(entry, at + 1),
-        slices::byte(entry, at + 2),
-        slices::byte(entry, at + 3),
-        slices::byte(entry, at + 4),
-    ]
-}
-
-// The material, 0 where the format has none.
-fn short_material(format: Format, entry: &[u8]) -> u8
-    ensures { result ≡ material_from format entry.now }
-{
-    if format.material {
-        return slices::byte(
-            entry,
-            stored::edge_at(format) + (7 + stored::number_width(format)),
-        );
+    // A vertex whose bytes may end early, field by field.
+    fn short_vertex(&self) -> Vertex
+        ensures { result ≡ vertex_from self.now.format self.now.bytes.now }
+    {
+        Vertex {
+            place: short_place(self.bytes),
+            p: self.number_or_none(6),
+            q: self.number_or_none(6 + stored::number_width(self.format)),
+        }
     }
-    0
-}
 
-// The same of a record that is all there.
-fn whole_material(format: Format, entry: &[u8]) -> u8
-    requires { record_width format ≤ length entry.now }
-    ensures { result ≡ material_from format entry.now }
-{
-    if format.material {
-        return entry[stored::edge_at(format) + (7 + stored::number_width(format))];
+    // Parents that are all there.
+    fn whole_parents(&self) -> Ends
+        requires { vertex_width self.now.format ≤ length self.now.bytes.now }
+        ensures { result ≡ parents_of (vertex_from self.now.format self.now.bytes.now) }
+    {
+        if self.format.wide {
+            return Ends {
+                lower: four_of(self.bytes, 6),
+                higher: four_of(self.bytes, 10),
+            };
+        }
+        Ends {
+            lower: or_none(two_of(self.bytes, 6)),
+            higher: or_none(two_of(self.bytes, 8)),
+        }
     }
-    0
-}
 
-// A record whose bytes may end early, field by field.
-fn short_record(format: Format, entry: &[u8]) -> Record
-    ensures { result ≡ record_from format entry.now }
-{
-    let at = stored::edge_at(format);
-    let corners = short_corners(format, entry);
-    let edge = slices::byte(entry, at);
-    let marks = marks_from(format, entry);
-    let flag = slices::byte(entry, at + 5);
-    let generation = slices::byte(entry, at + 6);
-    let material = short_material(format, entry);
-    let piece = Piece {
-        corners: corners,
-        edge: edge,
-        marks: marks,
-        flag: flag,
-        generation: generation,
-        material: material,
-    };
-    Record {
-        piece: piece,
-        first_child: number_or_none(format, entry, at + 7),
+    // A vertex that is all there.
+    fn whole_vertex(&self) -> Vertex
+        requires { vertex_width self.now.format ≤ length self.now.bytes.now }
+        ensures { result ≡ vertex_from self.now.format self.now.bytes.now }
+    {
+        let parents = self.whole_parents();
+        Vertex {
+            place: whole_place(self.bytes),
+            p: parents.lower,
+            q: parents.higher,
+        }
+    }
+
+    fn vertex(&self) -> Vertex
+        ensures { result ≡ vertex_from self.now.format self.now.bytes.now }
+    {
+        if self.bytes.len() < stored::vertex_width(self.format) {
+            return self.short_vertex();
+        }
+        self.whole_vertex()
+    }
+
+    // Parents alone.
+    fn parents(&self) -> Ends
+        ensures { result ≡ parents_of (vertex_from self.now.format self.now.bytes.now) }
+    {
+        Ends {
+            lower: self.number_or_none(6),
+            higher: self.number_or_none(6 + stored::number_width(self.format)),
+        }
+    }
+
+    // The corners of a record whose bytes may end early, one by one.
+    fn short_corners(&self) -> [u32; 4]
+        ensures { result ≡ corners_from self.now.format self.now.bytes.now }
+    {
+        let wide = stored::number_width(self.format);
+        [
+            self.number_or_none(0),
+            self.number_or_none(wide),
+            self.number_or_none(wide * 2),
+            self.number_or_none(wide * 3),
+        ]
+    }
+
+    fn whole_corners(&self) -> [u32; 4]
+        requires { edge_at self.now.format ≤ length self.now.bytes.now }
+        ensures { result ≡ corners_from self.now.format self.now.bytes.now }
+    {
+        if self.format.wide {
+            return wide_corners(self.bytes);
+        }
+        narrow_corners(self.bytes)
+    }
+
+    fn corners(&self) -> [u32; 4]
+        ensures { result ≡ corners_from self.now.format self.now.bytes.now }
+    {
+        if self.bytes.len() < stored::edge_at(self.format) {
+            return self.short_corners();
+        }
+        self.whole_corners()
+    }
+
+    // The byte that stands so far behind a record's corners.
+    fn byte(&self, k: usize) -> u8
+        requires { k < 16 }
+        ensures { result ≡ byte_at self.now.bytes.now (edge_at self.now.format + k) }
+    {
+        slices::byte(self.bytes, stored::edge_at(self.format) + k)
+    }
+
+    // The corner in slot k, alone.
+    fn corner(&self, k: u8) -> u32
+        requires { k < 4 }
+        ensures { result ≡ get_or (corners_from self.now.format self.now.bytes.now) k 0 }
+    {
+        self.number_or_none(stored::number_width(self.format) * (k as usize))
+    }
+
+    fn marks(&self) -> [u8; 4]
+        ensures { result ≡ marks_from self.now.format self.now.bytes.now }
+    {
+        [self.byte(1), self.byte(2), self.byte(3), self.byte(4)]
+    }
+
+    // The material, 0 where the format has none.
+    fn short_material(&self) -> u8
+        ensures { result ≡ material_from self.now.format self.now.bytes.now }
+    {
+        if self.format.material {
+            return self.byte(7 + stored::number_width(self.format));
+        }
+        0
+    }
+
+    // The same of a record that is all there.
+    fn whole_material(&self) -> u8
+        requires { record_width self.now.format ≤ length self.now.bytes.now }
+        ensures { result ≡ material_from self.now.format self.now.bytes.now }
+    {
+        if self.format.material {
+            return self.bytes[stored::edge_at(self.format)
+                + (7 + stored::number_width(self.format))];
+        }
+        0
+    }
+
+    // A record whose bytes may end early, field by field.
+    fn short_record(&self) -> Record
+        ensures { result ≡ record_from self.now.format self.now.bytes.now }
+    {
+        let piece = Piece {
+            corners: self.short_corners(),
+            edge: self.byte(0),
+            marks: self.marks(),
+            flag: self.byte(5),
+            generation: self.byte(6),
+            material: self.short_material(),
+        };
+        Record {
+            piece,
+            first_child: self.first_child(),
+        }
+    }
+
+    // A record that is all there.
+    fn whole_record(&self) -> Record
+        requires { record_width self.now.format ≤ length self.now.bytes.now }
+        ensures { result ≡ record_from self.now.format self.now.bytes.now }
+    {
+        let at = stored::edge_at(self.format);
+        let piece = Piece {
+            corners: self.whole_corners(),
+            edge: self.bytes[at],
+            marks: [
+                self.bytes[at + 1],
+                self.bytes[at + 2],
+                self.bytes[at + 3],
+                self.bytes[at + 4],
+            ],
+            flag: self.bytes[at + 5],
+            generation: self.bytes[at + 6],
+            material: self.whole_material(),
+        };
+        Record {
+            piece,
+            first_child: self.whole_number(at + 7),
+        }
+    }
+
+    fn record(&self) -> Record
+        ensures { result ≡ record_from self.now.format self.now.bytes.now }
+    {
+        if self.bytes.len() < stored::record_width(self.format) {
+            return self.short_record();
+        }
+        self.whole_record()
+    }
+
+    // The first child alone.
+    fn first_child(&self) -> u32
+        ensures { result ≡ (record_from self.now.format self.now.bytes.now).first_child }
+    {
+        self.number_or_none(stored::edge_at(self.format) + 7)
     }
 }
 
-// A record that is all there.
-fn whole_record(format: Format, entry: &[u8]) -> Record
-    requires { record_width format ≤ length entry.now }
-    ensures { result ≡ record_from format entry.now }
-{
-    let at = stored::edge_at(format);
-    let corners = whole_corners(format, entry);
-    let material = whole_material(format, entry);
-    let piece = Piece {
-        corners: corners,
-        edge: entry[at],
-        marks: [entry[at + 1], entry[at + 2], entry[at + 3], entry[at + 4]],
-        flag: entry[at + 5],
-        generation: entry[at + 6],
-        material: material,
-    };
-    Record {
-        piece: piece,
-        first_child: whole_number(format, entry, at + 7),
+// A mesh as it is read: its header, where its tables stand, and the base slice and the growth slice that hold them.
+#[derive(Clone, Copy)]
+pub struct Mesh<'a> {
+    pub header: Header,
+    pub layout: Layout,
+    pub base: &'a [u8],
+    pub grown: &'a [u8],
+}
+
+impl<'a> Mesh<'a> {
+    fn vertex_held(&self, i: usize) -> Entry<'a>
+        ensures format { result.format ≡ self.now.layout.format }
+        ensures bytes { result.bytes.now ≡ held_in self.now.layout.vertices self.now.base.now self.now.grown.now i }
+    {
+        Entry {
+            format: self.layout.format,
+            bytes: held(self.layout.vertices, self.base, self.grown, i),
+        }
     }
-}
 
-// The first child alone.
-fn first_child_from(format: Format, entry: &[u8]) -> u32
-    ensures { result ≡ (record_from format entry.now).first_child }
-{
-    number_or_none(format, entry, stored::edge_at(format) + 7)
-}
-
-pub fn record_in<'a>(l: Layout, base: &'a [u8], grown: &'a [u8], i: usize) -> Record
-    ensures { result ≡ record_in l base.now grown.now i }
-{
-    let format = l.format;
-    let entry = record_held(l, base, grown, i);
-    if entry.len() < stored::record_width(format) {
-        return short_record(format, entry);
+    fn record_held(&self, i: usize) -> Entry<'a>
+        ensures format { result.format ≡ self.now.layout.format }
+        ensures bytes { result.bytes.now ≡ held_in self.now.layout.records self.now.base.now self.now.grown.now i }
+    {
+        Entry {
+            format: self.layout.format,
+            bytes: held(self.layout.records, self.base, self.grown, i),
+        }
     }
-    whole_record(format, entry)
-}
 
-// A record's fields, each alone: its corners, one of them, its refinement edge, its marks, one of them, flag, generation and first child.
-pub fn corners_in<'a>(l: Layout, base: &'a [u8], grown: &'a [u8], i: usize) -> [u32; 4]
-    ensures { result ≡ (record_in l base.now grown.now i).piece.corners }
-{
-    let format = l.format;
-    corners_from(format, record_held(l, base, grown, i))
-}
-
-pub fn corner_in<'a>(l: Layout, base: &'a [u8], grown: &'a [u8], i: usize, k: u8) -> u32
-    ensures { result ≡ corner_at (record_in l base.now grown.now i).piece k }
-{
-    let format = l.format;
-    if k < 4 {
-        return corner_from(format, record_held(l, base, grown, i), k);
+    pub fn vertex(&self, i: usize) -> Vertex
+        ensures { result ≡ vertex_read self.now i }
+    {
+        self.vertex_held(i).vertex()
     }
-    0
-}
 
-pub fn edge_in<'a>(l: Layout, base: &'a [u8], grown: &'a [u8], i: usize) -> u8
-    ensures { result ≡ (record_in l base.now grown.now i).piece.edge }
-{
-    let format = l.format;
-    slices::byte(record_held(l, base, grown, i), stored::edge_at(format))
-}
-
-pub fn marks_in<'a>(l: Layout, base: &'a [u8], grown: &'a [u8], i: usize) -> [u8; 4]
-    ensures { result ≡ (record_in l base.now grown.now i).piece.marks }
-{
-    let format = l.format;
-    marks_from(format, record_held(l, base, grown, i))
-}
-
-pub fn mark_in<'a>(l: Layout, base: &'a [u8], grown: &'a [u8], i: usize, j: u8) -> u8
-    ensures { result ≡ mark (shape_of (record_in l base.now grown.now i).piece) j }
-{
-    let format = l.format;
-    if j < 4 {
-        return slices::byte(
-            record_held(l, base, grown, i),
-            stored::edge_at(format) + (1 + (j as usize)),
-        );
+    // Where a vertex stands, alone.
+    pub fn place(&self, i: usize) -> Place
+        ensures { result ≡ (vertex_read self.now i).place }
+    {
+        place_from(self.vertex_held(i).bytes)
     }
-    0
-}
 
-pub fn flag_in<'a>(l: Layout, base: &'a [u8], grown: &'a [u8], i: usize) -> u8
-    ensures { result ≡ (record_in l base.now grown.now i).piece.flag }
-{
-    let format = l.format;
-    slices::byte(record_held(l, base, grown, i), stored::edge_at(format) + 5)
-}
+    // A vertex's parents alone, for searches.
+    pub fn parents(&self, i: usize) -> Ends
+        ensures { result ≡ parents_of (vertex_read self.now i) }
+    {
+        self.vertex_held(i).parents()
+    }
 
-pub fn generation_in<'a>(l: Layout, base: &'a [u8], grown: &'a [u8], i: usize) -> u8
-    ensures { result ≡ (record_in l base.now grown.now i).piece.generation }
-{
-    let format = l.format;
-    slices::byte(record_held(l, base, grown, i), stored::edge_at(format) + 6)
-}
+    pub fn record(&self, i: usize) -> Record
+        ensures { result ≡ record_read self.now i }
+    {
+        self.record_held(i).record()
+    }
 
-pub fn first_child_in<'a>(l: Layout, base: &'a [u8], grown: &'a [u8], i: usize) -> u32
-    ensures { result ≡ (record_in l base.now grown.now i).first_child }
-{
-    let format = l.format;
-    first_child_from(format, record_held(l, base, grown, i))
+    // A record's fields, each alone: its corners, one of them, its refinement edge, its marks, one of them, flag, generation and first child.
+    pub fn corners(&self, i: usize) -> [u32; 4]
+        ensures { result ≡ (record_read self.now i).piece.corners }
+    {
+        self.record_held(i).corners()
+    }
+
+    pub fn corner(&self, i: usize, k: u8) -> u32
+        ensures { result ≡ corner_at (record_read self.now i).piece k }
+    {
+        if k < 4 {
+            return self.record_held(i).corner(k);
+        }
+        0
+    }
+
+    pub fn edge(&self, i: usize) -> u8
+        ensures { result ≡ (record_read self.now i).piece.edge }
+    {
+        self.record_held(i).byte(0)
+    }
+
+    pub fn marks(&self, i: usize) -> [u8; 4]
+        ensures { result ≡ (record_read self.now i).piece.marks }
+    {
+        self.record_held(i).marks()
+    }
+
+    pub fn mark(&self, i: usize, j: u8) -> u8
+        ensures { result ≡ mark (shape_of (record_read self.now i).piece) j }
+    {
+        if j < 4 {
+            return self.record_held(i).byte(1 + usize::from(j));
+        }
+        0
+    }
+
+    pub fn flag(&self, i: usize) -> u8
+        ensures { result ≡ (record_read self.now i).piece.flag }
+    {
+        self.record_held(i).byte(5)
+    }
+
+    pub fn generation(&self, i: usize) -> u8
+        ensures { result ≡ (record_read self.now i).piece.generation }
+    {
+        self.record_held(i).byte(6)
+    }
+
+    pub fn first_child(&self, i: usize) -> u32
+        ensures { result ≡ (record_read self.now i).first_child }
+    {
+        self.record_held(i).first_child()
+    }
 }

@@ -1,5 +1,5 @@
 // A stored mesh's header, and its length.
-#![tactic(auto)]
+#![tactic(auto, unfolding(stored::specs::Layout::marked, stored::specs::Layout::right_mark, stored::specs::Layout::header_from, stored::specs::Layout::right_length))]
 
 ghost use Rattle.std.specs.Prelude.{◌≡◌, ◌+◌, ◌*◌, ◌<◌};
 ghost use Rattle.stored.specs.Layout.{
@@ -23,25 +23,17 @@ use stored::{Format, Header, Kind};
 pub fn marked_with(s: &[u8], letter: u8, version: u32) -> bool
     ensures { result ≡ marked letter version s.now }
 {
-    if slices::byte(s, 0) != b'T' {
-        return false;
-    }
-    if slices::byte(s, 1) != b'M' {
-        return false;
-    }
-    if slices::byte(s, 2) != letter {
-        return false;
-    }
-    slices::two(s, 3) == version
+    slices::byte(s, 0) == b'T'
+        && slices::byte(s, 1) == b'M'
+        && slices::byte(s, 2) == letter
+        && slices::two(s, 3) == version
 }
 
 pub fn right_mark(format: Format, mesh: &[u8]) -> bool
     ensures { result ≡ right_mark format mesh.now }
 {
-    if marked_with(mesh, b'B', stored::version_of(format)) {
-        return slices::byte(mesh, 11 + stored::number_width(format) * 4) == 0;
-    }
-    false
+    marked_with(mesh, b'B', stored::version_of(format))
+        && slices::byte(mesh, 11 + stored::number_width(format) * 4) == 0
 }
 
 // A vertex or record number.
@@ -49,9 +41,10 @@ pub fn number_at(format: Format, s: &[u8], at: usize) -> u32
     ensures { result ≡ number_at format s.now at }
 {
     if format.wide {
-        return slices::four(s, at);
+        slices::four(s, at)
+    } else {
+        slices::two(s, at)
     }
-    slices::two(s, at)
 }
 
 pub fn header_from(format: Format, mesh: &[u8]) -> Header
@@ -72,9 +65,10 @@ fn round_after(round: u32) -> u32
     ensures { result ≡ round_after round }
 {
     if round < stored::LAST_ROUND {
-        return round + 1;
+        round + 1
+    } else {
+        0
     }
-    0
 }
 
 // "The round rises by 1."
@@ -82,12 +76,8 @@ pub fn next_round(h: Header) -> Header
     ensures { result ≡ next_round h }
 {
     Header {
-        job: h.job,
         round: round_after(h.round),
-        base_vertices: h.base_vertices,
-        vertices: h.vertices,
-        base_records: h.base_records,
-        records: h.records,
+        ..h
     }
 }
 
@@ -129,8 +119,5 @@ pub fn right_length<'a>(k: Kind, base: &'a [u8], grown: &'a [u8]) -> bool
         return false;
     }
     let h = header_from(k.format, base);
-    if grown.len() != grown_length(k, h) {
-        return false;
-    }
-    base.len() == base_length(k, h)
+    grown.len() == grown_length(k, h) && base.len() == base_length(k, h)
 }

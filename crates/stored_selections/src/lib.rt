@@ -1,5 +1,5 @@
 // The selection: its mark, its length, its heading and the record numbers that it names. Its format is that of the mesh it belongs to.
-#![tactic(auto)]
+#![tactic(auto, unfolding(stored::specs::Layout::right_selection_mark, stored::specs::Layout::right_selection_length, stored::specs::Layout::selection_of, stored::specs::Layout::named_in))]
 
 ghost use Rattle.std.specs.Prelude.{◌≡◌};
 ghost use Rattle.stored.specs.Layout.{selection_in, right_selection_mark, right_selection_length, selection_of, named_in};
@@ -9,10 +9,8 @@ use stored::{Format, Selection};
 pub fn right_selection_mark(format: Format, selection: &[u8]) -> bool
     ensures { result ≡ right_selection_mark (selection_in format selection.now) }
 {
-    if format.wide {
-        return stored_headers::marked_with(selection, b'S', 2);
-    }
-    stored_headers::marked_with(selection, b'S', 1)
+    let version = if format.wide { 2 } else { 1 };
+    stored_headers::marked_with(selection, b'S', version)
 }
 
 pub fn right_selection_length(format: Format, selection: &[u8]) -> bool
@@ -36,6 +34,7 @@ pub fn selection_of(format: Format, selection: &[u8]) -> Selection
     }
 }
 
+// Kept: a line for each width, so that `entry` divides by a number that is known.
 pub fn named_in(format: Format, selection: &[u8], i: usize) -> u32
     ensures { result ≡ named_in (selection_in format selection.now) i }
 {

@@ -18,16 +18,13 @@ ghost use Rattle.stored.specs.Layout.{
 use stored::{Format, Header, Layout, Record, Table, Vertex};
 
 // An entry's bytes, written from the table's beginning and the entry's place on.
+#[tactic(auto, using(laws::specs::Lists::sets_out))]
 fn put_from(s: &mut [u8], from: usize, at: usize, bytes: &[u8])
     ensures { s.new ≡ sets s.old (from + at) bytes.now }
 {
-    if s.len() <= from {
-        return;
+    if from < s.len() && at < s.len() - from {
+        slices_written::put(s, from + at, bytes);
     }
-    if s.len() - from <= at {
-        return;
-    }
-    slices_written::put(s, from + at, bytes);
 }
 
 // Entry i of a table, in the slice that holds it.
@@ -50,22 +47,18 @@ pub fn put_vertex(l: Layout, base: &mut [u8], grown: &mut [u8], i: usize, v: Ver
     ensures base_after { base.new ≡ base_into l.vertices base.old i (vertex_bytes l.format v) }
     ensures grown_after { grown.new ≡ grown_into l.vertices grown.old i (vertex_bytes l.format v) }
 {
-    let format = l.format;
-    let vertices = l.vertices;
-    let width = stored::vertex_width(format);
-    let bytes = stored_encoded::vertex_bytes(format, v);
-    put_held(vertices, base, grown, i, &bytes[..width]);
+    let width = stored::vertex_width(l.format);
+    let bytes = stored_encoded::vertex_bytes(l.format, v);
+    put_held(l.vertices, base, grown, i, &bytes[..width]);
 }
 
 pub fn put_record(l: Layout, base: &mut [u8], grown: &mut [u8], i: usize, r: Record)
     ensures base_after { base.new ≡ base_into l.records base.old i (record_bytes l.format r) }
     ensures grown_after { grown.new ≡ grown_into l.records grown.old i (record_bytes l.format r) }
 {
-    let format = l.format;
-    let records = l.records;
-    let width = stored::record_width(format);
-    let bytes = stored_encoded::record_bytes(format, r);
-    put_held(records, base, grown, i, &bytes[..width]);
+    let width = stored::record_width(l.format);
+    let bytes = stored_encoded::record_bytes(l.format, r);
+    put_held(l.records, base, grown, i, &bytes[..width]);
 }
 
 // The header, as many vertices as it says and then as many records, each from the beginning of its own slice.

@@ -1,5 +1,5 @@
 -- How the tables that are left are stored.
-use Rattle.std.specs.Prelude.{◌≡◌, refl, Bool, ℕ, ◌+◌, ◌*◌, ◌≤◌, ◌<◌, replicate}
+use Rattle.std.specs.Prelude.{◌≡◌, refl, Bool, ℕ, ◌*◌, ◌≤◌, ◌<◌, replicate}
 use Rattle.std.proofs.Math.Path.{sym, ap, subst}
 use Rattle.std.proofs.Common.{◌∙◌, arith, length-append, lt-ltb, le-ltb}
 use mathlib.Core.List.{List, ◌++◌}

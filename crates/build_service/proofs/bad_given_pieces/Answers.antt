@@ -1,15 +1,12 @@
 -- `build_service::bad_given_pieces` has found no bad piece before n.
 -- Assumes nothing.
-use Prim.Native.Nat.{◌-◌}
 use mathlib.Core.Path.{sym, ◌∙◌}
-use mathlib.Core.Bool.{false}
-use native.Mathlib.Omega.{arith}
 use Rattle.laws.specs.Below.{any_none, any_next, any_is, any_end}
 use Rattle.build_service.proofs.bad_given_pieces.Invariants.{bad}
 use Rattle.build_service.proofs.bad_given_pieces.Goals as goal
 
 pub loop-n-init : goal.loop-n-init
-loop-n-init c = let a = c.args in (omega arith, any_none (bad a.coordinates.now a.corners.now a.vertices))
+loop-n-init c = let a = c.args in any_none (bad a.coordinates.now a.corners.now a.vertices)
 
 pub returns-then-bad_given : goal.returns-then-bad_given
 returns-then-bad_given c =
@@ -19,9 +16,9 @@ returns-then-bad_given c =
 pub loop-n-preserved : goal.loop-n-preserved
 loop-n-preserved c =
     let a = c.args in
-    (omega arith, any_next (bad a.coordinates.now a.corners.now a.vertices) c.loop-n.n c.loop-n.invariant.1 (sym c.bad_given.ensures ∙ c.if-bad_given.false))
+    any_next (bad a.coordinates.now a.corners.now a.vertices) c.loop-n.n c.loop-n.invariant (sym c.bad_given.ensures ∙ c.if-bad_given.false)
 
 pub returns : goal.returns
 returns c =
     let a = c.args in
-    sym (any_end (bad a.coordinates.now a.corners.now a.vertices) a.records c.loop-n.n c.loop-n-test.false c.loop-n.invariant.0 c.loop-n.invariant.1)
+    sym (any_end (bad a.coordinates.now a.corners.now a.vertices) a.records c.loop-n.n c.loop-n-test.false c.loop-n.auto.n-end c.loop-n.invariant)

@@ -1,6 +1,6 @@
 -- `build_service::bad_given_pieces` has found no bad piece before n.
 -- Assumes nothing.
-use Prim.Native.Nat.{ℕ, ◌≤◌, ◌-◌}
+use Prim.Native.Nat.{ℕ}
 use mathlib.Core.Path.{◌≡◌}
 use mathlib.Core.Bool.{Bool, false}
 use mathlib.Core.List.{List}
@@ -15,7 +15,4 @@ abbrev pub bad : List ℤ → List ℕ → ℕ → ℕ → Bool
 bad coordinates corners vertices n = bad_piece vertices (plain_vertex coordinates) (plain_piece corners n)
 
 abbrev pub invariant-loop-n : goal.invariant-loop-n
-invariant-loop-n l = (l.n ≤ l.records) × (any_below l.n (bad l.coordinates l.corners l.vertices) ≡ false)
-
-abbrev pub decreases-loop-n : goal.decreases-loop-n
-decreases-loop-n l = l.records - l.n
+invariant-loop-n l = any_below l.n (bad l.coordinates l.corners l.vertices) ≡ false

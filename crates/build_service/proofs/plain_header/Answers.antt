@@ -1,7 +1,6 @@
 -- `build_service::plain_header`: counts that are not wrong fit.
 -- Assumes nothing.
 use native.Mathlib.Omega.{arith}
-use Rattle.build_service.specs.Build.{plain_header}
 use Rattle.build_service.specs.Storing.{few_vertices, few_records}
 use Rattle.build_service.proofs.plain_header.Goals as goal
 
@@ -10,7 +9,3 @@ overflow_cast-vertices c = omega (arith, few_vertices c.args.job c.args.coordina
 
 pub overflow_cast-records : goal.overflow_cast-records
 overflow_cast-records c = omega (arith, few_records c.args.job c.args.coordinates.now c.args.corners.now c.requires)
-
-pub returns : goal.returns
-unfolding plain_header
-returns c = λ i. plain_header c.args.job c.args.coordinates.now c.args.corners.now

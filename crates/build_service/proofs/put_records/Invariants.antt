@@ -1,12 +1,8 @@
 -- `build_service::put_records` has written the records before i, and no vertex.
 -- Assumes nothing.
-use Prim.Native.Nat.{◌≤◌, ◌-◌}
 use mathlib.Core.Path.{◌≡◌}
 use Rattle.build_service.specs.Storing.{records_put}
 use Rattle.build_service.proofs.put_records.Given as goal
 
 abbrev pub invariant-loop-i : goal.invariant-loop-i
-invariant-loop-i l = (l.i ≤ l.records) × (l.base ≡ l.initial.base) × (l.grown ≡ records_put l.initial.grown l.coordinates l.corners l.i)
-
-abbrev pub decreases-loop-i : goal.decreases-loop-i
-decreases-loop-i l = l.records - l.i
+invariant-loop-i l = (l.base ≡ l.initial.base) × (l.grown ≡ records_put l.initial.grown l.coordinates l.corners l.i)

@@ -1,9 +1,7 @@
 -- `build_service::put_vertices` has written the vertices before i, and no record.
 -- Assumes nothing.
-use Prim.Native.Nat.{◌-◌}
 use mathlib.Core.Path.{refl, sym, ◌∙◌, ap}
 use native.Mathlib.Nat.{le_antisymm}
-use native.Mathlib.Omega.{arith}
 use lib.ListN.{length}
 use Rattle.stored.specs.declared.Format.{Format}
 use Rattle.stored.specs.Layout.{vertex_bytes, working}
@@ -11,7 +9,7 @@ use Rattle.build_service.specs.Storing.{vertices_put, vertices_none, vertex_step
 use Rattle.build_service.proofs.put_vertices.Goals as goal
 
 pub loop-i-init : goal.loop-i-init
-loop-i-init c = (omega arith, sym (vertices_none c.args.base.now c.args.coordinates.now), refl)
+loop-i-init c = (sym (vertices_none c.args.base.now c.args.coordinates.now), refl)
 
 pub loop-i-preserved : goal.loop-i-preserved
 loop-i-preserved c =
@@ -21,16 +19,15 @@ loop-i-preserved c =
     let turn = c.loop-i in
     let v = c.plain_vertex in
     let put = c.put_vertex in (
-      omega (arith, c.loop-i-test.true),
-      vertex_step a.vertices a.records turn.i w.result is a.coordinates.now c.loop-i-test.true a.base.now turn.base put.new.base v.result turn.invariant.1 v.ensures put.ensures.base_after,
-      vertex_frame a.vertices a.records turn.i w.result is a.coordinates.now c.loop-i-test.true a.grown.now turn.grown put.new.grown (vertex_bytes w.result.format v.result) turn.invariant.2 put.ensures.grown_after,
+      vertex_step a.vertices a.records turn.i w.result is a.coordinates.now c.loop-i-test.true a.base.now turn.base put.new.base v.result turn.invariant.0 v.ensures put.ensures.base_after,
+      vertex_frame a.vertices a.records turn.i w.result is a.coordinates.now c.loop-i-test.true a.grown.now turn.grown put.new.grown (vertex_bytes w.result.format v.result) turn.invariant.1 put.ensures.grown_after,
     )
 
 pub shape_of-base : goal.shape_of-base
-shape_of-base c = ap length c.loop-i.invariant.1 ∙ vertices_length c.args.base.now c.args.coordinates.now c.loop-i.i
+shape_of-base c = ap length c.loop-i.invariant.0 ∙ vertices_length c.args.base.now c.args.coordinates.now c.loop-i.i
 
 pub shape_of-grown : goal.shape_of-grown
-shape_of-grown c = ap length c.loop-i.invariant.2
+shape_of-grown c = ap length c.loop-i.invariant.1
 
 pub returns : goal.returns
-returns c = record { base_after = c.loop-i.invariant.1 ∙ ap (vertices_put c.args.base.now c.args.coordinates.now) (le_antisymm c.loop-i.invariant.0 c.loop-i-test.false); grown_unchanged = c.loop-i.invariant.2 }
+returns c = record { base_after = c.loop-i.invariant.0 ∙ ap (vertices_put c.args.base.now c.args.coordinates.now) (le_antisymm c.loop-i.auto.i-end c.loop-i-test.false); grown_unchanged = c.loop-i.invariant.1 }

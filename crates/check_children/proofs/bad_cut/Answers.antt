@@ -14,4 +14,4 @@ bad_children-requires c = rw (← c.ends_of-ends.ensures) c.vertex_with-w.ensure
 
 pub returns : goal.returns
 unfolding bad_cut midpoint_counted
-returns c = record { value = rw (c.bad_children.ensures, c.record_in-record.ensures, sym c.is_leaf.ensures ∙ c.if-is_leaf.false); midpoints_after = rw (c.count.ensures, c.vertex_with-w.ensures, c.ends_of-ends.ensures, c.record_in-record.ensures, sym c.is_leaf.ensures ∙ c.if-is_leaf.false) }
+returns c = record { value = rw (c.bad_children.ensures, c.record-record.ensures, sym c.is_leaf.ensures ∙ c.if-is_leaf.false); midpoints_after = rw (c.count.ensures, c.vertex_with-w.ensures, c.ends_of-ends.ensures, c.record-record.ensures, sym c.is_leaf.ensures ∙ c.if-is_leaf.false) }

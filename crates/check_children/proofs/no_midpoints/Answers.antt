@@ -1,20 +1,15 @@
--- `check_children::no_midpoints` has passed no vertex before v that is no midpoint.
+-- `check_children::no_midpoints` asks each vertex in turn.
 -- Assumes nothing.
-use Prim.Native.Nat.{◌-◌}
-use mathlib.Core.Path.{sym, ◌∙◌}
-use mathlib.Core.Bool.{false}
-use native.Mathlib.Omega.{arith}
-use Rattle.laws.specs.Below.{any_none, any_next, any_is, any_end}
+use mathlib.Core.Path.{refl, ◌∙◌}
+use Rattle.std.proofs.Common.{arith, rules, tests}
+use Rattle.std.proofs.lemmas.Iterator.{YieldsList-from_range}
+use Rattle.std.proofs.lemmas.Iterator.Search.{any_from_yields_List}
+use Rattle.laws.specs.Ranges.{any_of_range}
+use Rattle.mesh_tables.specs.Tables.{tables_read}
+use Rattle.check_children.specs.Midpoints.{no_midpoint_by}
 use Rattle.check_children.proofs.no_midpoints.Goals as goal
 
-pub loop-v-init : goal.loop-v-init
-loop-v-init c = (omega arith, any_none _)
-
-pub returns-then-no_midpoint : goal.returns-then-no_midpoint
-returns-then-no_midpoint c = sym (any_is _ _ _ c.loop-v-test.true (sym c.no_midpoint.ensures ∙ c.if-no_midpoint.true))
-
-pub loop-v-preserved : goal.loop-v-preserved
-loop-v-preserved c = (omega arith, any_next _ _ c.loop-v.invariant.1 (sym c.no_midpoint.ensures ∙ c.if-no_midpoint.false))
-
 pub returns : goal.returns
-returns c = sym (any_end _ _ _ c.loop-v-test.false c.loop-v.invariant.0 c.loop-v.invariant.1)
+returns c =
+    any_from_yields_List (no_midpoint_by (tables_read c.args.mesh.now) c.args.midpoints.now) _ _ _ c.any.ensures.ran (YieldsList-from_range 0 c.args.mesh.now.header.vertices c.args.mesh.now.header.vertices refl (omega arith)) (λ x b q k. search (rules, tests))
+    ∙ any_of_range c.args.mesh.now.header.vertices _

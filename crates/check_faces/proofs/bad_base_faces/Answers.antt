@@ -5,12 +5,9 @@ use Rattle.laws.specs.Links.{roomy}
 use Rattle.check_refusals.specs.Refusals.{bad_base_faces}
 use Rattle.check_faces.proofs.bad_base_faces.Goals as goal
 
-pub returns-then-is_short : goal.returns-then-is_short
-returns-then-is_short c empty = rw (sym c.is_short.ensures ∙ c.if-is_short.true)
-
 pub bad_below-requires : goal.bad_below-requires
 bad_below-requires c = roomy _ _ _ (sym c.is_short.ensures ∙ c.if-is_short.false)
 
-pub returns : goal.returns
+pub returns-else-is_short : goal.returns-else-is_short
 unfolding bad_base_faces
-returns c empty = rw (sym c.is_short.ensures ∙ c.if-is_short.false) (c.bad_below.ensures empty)
+returns-else-is_short c empty = rw (sym c.is_short.ensures ∙ c.if-is_short.false) (c.bad_below.ensures empty)

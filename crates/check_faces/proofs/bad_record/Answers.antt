@@ -7,9 +7,6 @@ use Rattle.check_faces.proofs.bad_record.Goals as goal
 pub push_faces-requires : goal.push_faces-requires
 push_faces-requires c =
     let room = c.requires in
-    let keys = length c.args.heads.now in
-    let own : KeysWithin c.keys_of-own.result keys = rw c.keys_of-own.ensures (keys_within keys _ room.keys) in
+    let keys = length c.args.links.now.heads.now in
+    let own : KeysWithin c.keys_of-own.result keys = rw (c.keys_of-own.ensures, ← c.keys.ensures) (keys_within c.keys.result _ (rw c.keys.ensures room.keys)) in
     record { keys_within = own; n_in_bounds = room.places; n_bound = room.fits }
-
-pub returns : goal.returns
-returns c = record { value = rw (← c.record_in-record.ensures, ← c.keys_of-own.ensures) c.bad_linked-bad.ensures; nexts_after = rw (← c.record_in-record.ensures, ← c.keys_of-own.ensures) c.push_faces.ensures }

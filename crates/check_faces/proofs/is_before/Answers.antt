@@ -1,13 +1,13 @@
--- `check_faces::is_before`: each way out is one case of the definition, at what the call returns.
+-- `check_faces::is_before`: both ways out are cases of the definition, at what the call returns.
 -- Assumes nothing.
-use borrow.Author.Tests.{lt-ltb, le-ltb}
+use Rattle.std.proofs.Common.{rules}
 use Rattle.check_faces.specs.Faces.{is_before}
 use Rattle.check_faces.proofs.is_before.Goals as goal
 
-pub returns-then-r-f : goal.returns-then-r-f
+pub returns-then-f-r : goal.returns-then-f-r
 unfolding is_before
-returns-then-r-f c = rw (le-ltb _ _ c.if-r-f.true)
+returns-then-f-r c = search rules
 
-pub returns : goal.returns
+pub returns-else-f-r : goal.returns-else-f-r
 unfolding is_before
-returns c = rw (lt-ltb _ _ c.if-r-f.false) c.is_face.ensures
+returns-else-f-r c = search rules

@@ -1,8 +1,9 @@
 -- `check_faces::is_face` compares the face that the calls read.
 -- Assumes nothing.
+use Rattle.std.proofs.Common.{rules}
 use Rattle.check_faces.specs.Faces.{is_face}
 use Rattle.check_faces.proofs.is_face.Goals as goal
 
 pub returns : goal.returns
 unfolding is_face
-returns c = rw (← c.corners_in-p.ensures, ← c.face_of-found.ensures) c.same_face.ensures
+returns c = search rules

@@ -4,12 +4,10 @@ use Prim.Native.Nat.{◌+◌, ◌≤◌, ◌-◌}
 use mathlib.Core.Path.{◌≡◌}
 use mathlib.Core.Bool.{false}
 use Rattle.laws.specs.Below.{any_below}
-use Rattle.stored.specs.Layout.{vertex_in}
 use Rattle.check_inside.specs.Cells.{hangs_below, in_row}
 use Rattle.check_inside.proofs.any_in_layer.Given as goal
+use Rattle.stored_entries.specs.Mesh.{vertex_read}
 
 abbrev pub invariant-loop-y : goal.invariant-loop-y
-invariant-loop-y l = (l.initial.y ≤ l.y) × ((l.y - l.initial.y ≤ l.end + 1 - l.initial.y) × (any_below (l.y - l.initial.y) (λ i. in_row l.heads l.nexts (hangs_below (vertex_in l.l l.base l.grown) l.count l.q l.low l.high) l.from l.to (l.initial.y + i) l.z) ≡ false))
-
-abbrev pub decreases-loop-y : goal.decreases-loop-y
-decreases-loop-y l = l.end + 1 - l.y
+invariant-loop-y l = (l.y - l.fn.block.from.y ≤ l.fn.block.to.y + 1 - l.fn.block.from.y)
+    × (any_below (l.y - l.fn.block.from.y) (λ i. in_row l.links.heads.now l.links.nexts.now (hangs_below (vertex_read l.mesh) l.count l.q l.space.low l.space.high) l.fn.block.from l.fn.block.to (l.fn.block.from.y + i) l.z) ≡ false)

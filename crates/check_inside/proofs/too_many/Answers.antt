@@ -14,11 +14,11 @@ fits count a b small few side =
 pub overflow_mul-layer : goal.overflow_mul-layer
 overflow_mul-layer c =
     let small : c.args.count < 4294967296 = omega (arith, c.ranges.count) in
-    record { fits = fits c.args.count c.side-row.result c.side.result small c.if-most-row.false c.side.ensures }
+    record { fits = fits c.args.count c.side-row.result c.side.result small (omega (arith, c.if-most-row.false, c.from-most.ensures)) c.side.ensures }
 
 pub overflow_mul-result : goal.overflow_mul-result
 overflow_mul-result c =
     let small : c.args.count < 4294967296 = omega (arith, c.ranges.count) in
     record {
-      fits = fits c.args.count (c.side-row.result * c.side.result) c.side-2.result small c.if-most-layer.false c.side-2.ensures;
+      fits = fits c.args.count (c.side-row.result * c.side.result) c.side-else-most-layer.result small (omega (arith, c.if-most-layer.false, c.from-most.ensures)) c.side-else-most-layer.ensures;
     }

@@ -1,6 +1,6 @@
 -- `check_marks::bad_mark_in` has found every mark before i to fit.
 -- Assumes nothing.
-use Prim.Native.Nat.{ℕ, ◌≤◌, ◌-◌}
+use Prim.Native.Nat.{ℕ}
 use mathlib.Core.Path.{◌≡◌}
 use mathlib.Core.Bool.{Bool, false, not}
 use mathlib.Core.List.{List}
@@ -14,7 +14,4 @@ abbrev pub unfit : ℕ → List ℕ → ℕ → Bool
 unfit edge marks i = not (mark_fits edge (get_or marks i 0) i)
 
 abbrev pub invariant-loop-i : goal.invariant-loop-i
-invariant-loop-i l = (l.i ≤ 4) × (any_below l.i (unfit l.edge l.marks) ≡ false)
-
-abbrev pub decreases-loop-i : goal.decreases-loop-i
-decreases-loop-i l = 4 - l.i
+invariant-loop-i l = any_below l.i (unfit l.edge l.marks) ≡ false

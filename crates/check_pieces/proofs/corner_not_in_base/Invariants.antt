@@ -15,6 +15,3 @@ beyond count corners k = leb count (get_or corners k 0)
 
 abbrev pub invariant-loop-k : goal.invariant-loop-k
 invariant-loop-k l = (l.k ≤ 4) × (any_below l.k (beyond l.count l.corners) ≡ false)
-
-abbrev pub decreases-loop-k : goal.decreases-loop-k
-decreases-loop-k l = 4 - l.k

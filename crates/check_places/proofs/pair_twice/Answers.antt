@@ -4,4 +4,4 @@ use Rattle.check_places.specs.Kept.{pair_twice_lem}
 use Rattle.check_places.proofs.pair_twice.Goals as goal
 
 pub returns : goal.returns
-returns c kept = rw (c.any_from.ensures, c.head_of-head.ensures, c.parents_in-ends.ensures) (pair_twice_lem _ _ _ _ kept)
+returns c kept = rw (c.any_from.ensures, c.head_of-head.ensures, c.parents-ends.ensures) (pair_twice_lem _ _ _ _ kept)

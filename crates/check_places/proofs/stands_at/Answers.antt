@@ -1,9 +1,9 @@
--- `check_places::stands_at` reads the vertex's place.
+-- `check_places::stands_at`: it is the definition, coordinate by coordinate, at the place that is read.
 -- Assumes nothing.
-use mathlib.Core.Path.{◌∙◌, ap}
-use Rattle.grid.specs.declared.Place.{Place}
+use Rattle.std.proofs.Common.{rules}
 use Rattle.grid.specs.Places.{same_place}
 use Rattle.check_places.proofs.stands_at.Goals as goal
 
 pub returns : goal.returns
-returns c = c.same_place.ensures ∙ ap (λ (there : Place). same_place there c.args.place) c.place_in-there.ensures
+unfolding same_place
+returns c = search rules

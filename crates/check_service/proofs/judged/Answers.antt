@@ -4,7 +4,7 @@ use Rattle.check_refusals.specs.Lent.{just_made, lent_to_base, lent_to_cuts}
 use Rattle.check_service.proofs.judged.Goals as goal
 
 pub judged_with-requires : goal.judged_with-requires
-judged_with-requires c = record { lent_to_base = lent_to_base _ c.requires; empty = just_made 8192; empty_2 = just_made 32768; lent_to_cuts = lent_to_cuts _ c.requires }
+judged_with-requires c = record { lent_to_base = lent_to_base _ c.requires; heads_empty = just_made 8192; face_heads_empty = just_made 32768; lent_to_cuts = lent_to_cuts _ c.requires }
 
 pub returns : goal.returns
 returns c = c.judged_with.ensures

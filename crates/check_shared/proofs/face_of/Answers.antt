@@ -1,8 +1,13 @@
--- `check_shared::face_of`: each corner is what the call returns.
+-- `check_shared::face_of`: each corner is the one of its slot.
 -- Assumes nothing.
+use Rattle.std.proofs.Common.{rules}
 use Rattle.check_shared.specs.Faces.{face_of}
 use Rattle.check_shared.proofs.face_of.Goals as goal
 
-pub returns : goal.returns
+pub returns-then-i-le2 : goal.returns-then-i-le2
 unfolding face_of
-returns c = rw (c.one_of.ensures, c.one_of-2.ensures, c.one_of-3.ensures)
+returns-then-i-le2 c = search rules
+
+pub returns-else-i-le2 : goal.returns-else-i-le2
+unfolding face_of
+returns-else-i-le2 c = search rules

@@ -1,8 +1,9 @@
 -- `check_shared::most_under`: the greatest of what the calls return.
 -- Assumes nothing.
+use Rattle.std.proofs.Common.{rules}
 use Rattle.check_shared.specs.Sums.{most_under}
 use Rattle.check_shared.proofs.most_under.Goals as goal
 
 pub returns : goal.returns
 unfolding most_under
-returns c = rw (c.greater.ensures, c.only_under-3.ensures, c.greater-x.ensures, c.only_under-2.ensures, c.only_under.ensures)
+returns c = search rules

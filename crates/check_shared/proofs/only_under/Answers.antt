@@ -1,13 +1,13 @@
--- `check_shared::only_under`: each way out is one case of the definition.
+-- `check_shared::only_under`: it is the definition.
 -- Assumes nothing.
-use borrow.Author.Tests.{lt-ltb, le-ltb}
+use Rattle.std.proofs.Common.{rules}
 use Rattle.check_shared.specs.Sums.{under}
 use Rattle.check_shared.proofs.only_under.Goals as goal
 
 pub returns-then-x-top : goal.returns-then-x-top
 unfolding under
-returns-then-x-top c = rw (lt-ltb _ _ c.if-x-top.true)
+returns-then-x-top c = search rules
 
 pub returns-else-x-top : goal.returns-else-x-top
 unfolding under
-returns-else-x-top c = rw (le-ltb _ _ c.if-x-top.false)
+returns-else-x-top c = search rules

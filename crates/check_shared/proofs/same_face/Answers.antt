@@ -1,13 +1,13 @@
--- `check_shared::same_face`: each way out is one case of the definition, at what the calls return.
+-- `check_shared::same_face`: it is the definition at what the calls return.
 -- Assumes nothing.
-use mathlib.Core.Path.{sym, ◌∙◌}
+use Rattle.std.proofs.Common.{rules}
 use Rattle.check_shared.specs.Faces.{same_set}
 use Rattle.check_shared.proofs.same_face.Goals as goal
 
 pub returns-then-face_inside : goal.returns-then-face_inside
 unfolding same_set
-returns-then-face_inside c = rw (sym c.face_inside.ensures ∙ c.if-face_inside.true) c.face_inside-then-face_inside.ensures
+returns-then-face_inside c = search rules
 
-pub returns : goal.returns
+pub returns-else-face_inside : goal.returns-else-face_inside
 unfolding same_set
-returns c = rw (sym c.face_inside.ensures ∙ c.if-face_inside.false)
+returns-else-face_inside c = search rules

@@ -1,17 +1,17 @@
--- `check_shared::same_two`: each way out is one case of the definition.
+-- `check_shared::same_two`: it is the definition.
 -- Assumes nothing.
-use borrow.Author.Tests.{eq-eqb, ne_eqb}
+use Rattle.std.proofs.Common.{rules}
 use Rattle.check_shared.specs.Marks.{same_two}
 use Rattle.check_shared.proofs.same_two.Goals as goal
 
 pub returns-then-a-c : goal.returns-then-a-c
 unfolding same_two
-returns-then-a-c c = rw (eq-eqb _ _ c.if-a-c.true)
+returns-then-a-c c = search rules
 
 pub returns-then-a-d : goal.returns-then-a-d
 unfolding same_two
-returns-then-a-d c = rw (ne_eqb _ _ c.if-a-c.false, eq-eqb _ _ c.if-a-d.true)
+returns-then-a-d c = search rules
 
-pub returns : goal.returns
+pub returns-else-a-d : goal.returns-else-a-d
 unfolding same_two
-returns c = rw (ne_eqb _ _ c.if-a-c.false, ne_eqb _ _ c.if-a-d.false)
+returns-else-a-d c = search rules

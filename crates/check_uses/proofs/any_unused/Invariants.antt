@@ -1,6 +1,5 @@
 -- `check_uses::any_unused` has found every vertex before v counted.
 -- Assumes nothing.
-use Prim.Native.Nat.{◌≤◌, ◌-◌}
 use mathlib.Core.Path.{◌≡◌}
 use mathlib.Core.Bool.{false}
 use lib.Dec.{eqb}
@@ -9,7 +8,4 @@ use Rattle.laws.specs.Below.{any_below}
 use Rattle.check_uses.proofs.any_unused.Given as goal
 
 abbrev pub invariant-loop-v : goal.invariant-loop-v
-invariant-loop-v l = (l.v ≤ l.count) × (any_below l.v (λ x. eqb (get_or l.uses x 0) 0) ≡ false)
-
-abbrev pub decreases-loop-v : goal.decreases-loop-v
-decreases-loop-v l = l.count - l.v
+invariant-loop-v l = any_below l.v (λ x. eqb (get_or l.uses x 0) 0) ≡ false

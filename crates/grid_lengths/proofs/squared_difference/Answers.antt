@@ -1,16 +1,15 @@
--- `grid_lengths::squared_difference` meets its contract, by the law for each order of the two places. Assumes nothing.
+-- `grid_lengths::squared_difference` meets its contract, by the law for either order of the two places. Assumes nothing.
+use Prim.Native.Nat.{◌*◌}
 use native.Mathlib.Omega.{arith}
-use Rattle.grid_lengths.specs.LengthLaws.{squared_up, squared_down}
+use Rattle.grid_lengths.specs.LengthLaws.{SquaredDifference, squared_apart}
 use Rattle.grid_lengths.proofs.squared_difference.Goals as goal
+use Rattle.grid_lengths.proofs.squared_difference.Goals.{After-abs_diff-d}
+
+square : (c : After-abs_diff-d) → SquaredDifference c.args.p c.args.q (c.abs_diff-d.result * c.abs_diff-d.result)
+square c = squared_apart c.args.p c.args.q c.abs_diff-d.result c.abs_diff-d.ensures (omega arith) (omega arith)
 
 pub overflow_mul-result : goal.overflow_mul-result
-overflow_mul-result c = omega (arith, (squared_up c.args.p c.args.q c.if-p-q.true (omega arith)).small)
-
-pub returns-then-p-q : goal.returns-then-p-q
-returns-then-p-q c = squared_up c.args.p c.args.q c.if-p-q.true (omega arith)
-
-pub overflow_mul-result-2 : goal.overflow_mul-result-2
-overflow_mul-result-2 c = omega (arith, (squared_down c.args.p c.args.q c.if-p-q.false (omega arith)).small)
+overflow_mul-result c = omega (arith, (square c).small)
 
 pub returns : goal.returns
-returns c = squared_down c.args.p c.args.q c.if-p-q.false (omega arith)
+returns c = square c

@@ -6,7 +6,8 @@ use mathlib.Core.List.{[]}
 use native.Mathlib.Nat.{le_antisymm}
 use native.Mathlib.Omega.{arith}
 use Rattle.laws.specs.Lists.{Bytes, bytes_none}
-use Rattle.stored.specs.Layout.{stored1, header_of, layout_of}
+use Rattle.stored.specs.Layout.{stored1, header_of, layout_of, record_in}
+use Rattle.list_service.specs.Lengths.{leaf_fits}
 use Rattle.stored.specs.Fitting.{record_fits}
 use Rattle.mesh_tables.specs.Tables.{tables, tables_of}
 use Rattle.list_service.specs.Listing.{leaf_lines, text_of}
@@ -20,12 +21,15 @@ loop-n-init c = (omega arith, rw (leaves_none _) (put_none _ _))
 pub put_record-next-requires : goal.put_record-next-requires
 put_record-next-requires c =
     let mesh = c.args.mesh.now in
-    let l = c.layout_of-l.result in
+    let l = c.layout_of.result in
     let loop = c.loop-n in
     let bytes : Bytes mesh = record { byte = λ k. omega (arith, c.shared_slice_known-1.given k) } in
     let few : loop.n < 10 ^ 10 = omega (arith, c.loop-n-test.true, c.struct_known-1.given) in
     let long = leaves_long (tables (header_of (stored1 mesh)) l mesh []) l.format (record_fits l mesh [] bytes bytes_none) loop.n (omega arith) in
-    (few, omega (arith, c.requires.0, loop.invariant.1.place, long))
+    record {
+      fits = leaf_fits l.format loop.n (record_in l mesh [] loop.n) few (record_fits l mesh [] bytes bytes_none loop.n);
+      room = omega (arith, c.requires.0, loop.invariant.1.place, long);
+    }
 
 pub loop-n-preserved : goal.loop-n-preserved
 loop-n-preserved c = (omega arith, rw (leaves_next _ _) (put_then c.loop-n.invariant.1 c.put_record-next.ensures))
@@ -39,7 +43,7 @@ returns c =
     let a = c.args in
     let mesh = a.mesh.now in
     let loop = c.loop-n in
-    let layout = c.layout_of-l.ensures ∙ (λ i. layout_of (c.kind_1.ensures i) (c.requires.1 i)) in
-    let all : text_of (leaf_lines (tables (header_of (stored1 mesh)) c.layout_of-l.result mesh []) loop.n) ≡ text_of (leaf_lines (tables_of (stored1 mesh)) a.h.records) =
+    let layout = c.layout_of.ensures ∙ (λ i. layout_of (c.kind_1.ensures i) (c.requires.1 i)) in
+    let all : text_of (leaf_lines (tables (header_of (stored1 mesh)) c.layout_of.result mesh []) loop.n) ≡ text_of (leaf_lines (tables_of (stored1 mesh)) a.h.records) =
     λ i. text_of (leaf_lines (tables (header_of (stored1 mesh)) (layout i) mesh []) (le_antisymm loop.invariant.0 c.loop-n-test.false i)) in
     rw (← all) loop.invariant.1

@@ -9,7 +9,4 @@ use Rattle.list_service.specs.Putting.{TextPut}
 use Rattle.list_service.proofs.put_leaves.Given as goal
 
 abbrev pub invariant-loop-n : goal.invariant-loop-n
-invariant-loop-n l = (l.n ≤ l.count) × TextPut l.initial.out l.at (text_of (leaf_lines (tables (header_of (stored1 l.mesh)) l.l l.mesh []) l.n)) l.out l.next
-
-abbrev pub decreases-loop-n : goal.decreases-loop-n
-decreases-loop-n l = l.count - l.n
+invariant-loop-n l = (l.n ≤ l.count) × TextPut l.initial.out l.at (text_of (leaf_lines (tables (header_of (stored1 l.mesh)) l.read.layout l.read.base.now l.read.grown.now) l.n)) l.out l.next

@@ -15,12 +15,8 @@ unfolding leaf_text
 returns-then-not-is_leaf c = rw (sym c.is_leaf.ensures ∙ c.if-not-is_leaf.true) (put_none _ _)
 
 pub put_leaf-requires : goal.put_leaf-requires
-put_leaf-requires c =
-    let a = c.args in
-    let mesh = a.mesh.now in
-    let bytes : Bytes mesh = record { byte = λ k. omega (arith, c.shared_slice_known-1.given k) } in
-    (rw c.record_in-record.ensures (leaf_fits a.l.format a.n (record_in a.l mesh [] a.n) c.requires.0 (record_fits a.l mesh [] bytes bytes_none a.n)), c.requires.1)
+put_leaf-requires c = (rw c.record.ensures c.requires.fits, c.requires.room)
 
 pub returns : goal.returns
 unfolding leaf_text
-returns c = rw (sym c.is_leaf.ensures ∙ c.if-not-is_leaf.false, ← c.record_in-record.ensures) c.put_leaf.ensures
+returns c = rw (sym c.is_leaf.ensures ∙ c.if-not-is_leaf.false, ← c.record.ensures) c.put_leaf.ensures

@@ -6,14 +6,14 @@ use Rattle.piece.specs.declared.Ends.{Ends}
 use Rattle.mesh_tables.specs.Tables.{has_parents}
 use Rattle.mesh_parents.proofs.has_parents.Goals as goal
 
-pub returns-then-v-h : goal.returns-then-v-h
+pub returns-then-v-mesh : goal.returns-then-v-mesh
 unfolding has_parents
-returns-then-v-h c = rw (lt-leb _ _ c.if-v-h.true)
+returns-then-v-mesh c = rw (lt-leb _ _ c.if-v-mesh.true)
 
 pub returns-then-parents-ends : goal.returns-then-parents-ends
 unfolding has_parents
-returns-then-parents-ends c = let p = ap (λ (x : Ends). x.lower) c.parents_in-parents.ensures in rw (le-leb _ _ c.if-v-h.false, ← p, ne_eqb _ _ c.if-parents-ends.true)
+returns-then-parents-ends c = let p = ap (λ (x : Ends). x.lower) c.parents-parents.ensures in rw (le-leb _ _ c.if-v-mesh.false, ← p, ne_eqb _ _ c.if-parents-ends.true)
 
 pub returns : goal.returns
 unfolding has_parents
-returns c = let p = ap (λ (x : Ends). x.lower) c.parents_in-parents.ensures in let q = ap (λ (x : Ends). x.higher) c.parents_in-parents.ensures in rw (le-leb _ _ c.if-v-h.false, ← p, eq-eqb _ _ c.if-parents-ends.false, ← q)
+returns c = let p = ap (λ (x : Ends). x.lower) c.parents-parents.ensures in let q = ap (λ (x : Ends). x.higher) c.parents-parents.ensures in rw (le-leb _ _ c.if-v-mesh.false, ← p, eq-eqb _ _ c.if-parents-ends.false, ← q)

@@ -10,5 +10,5 @@ use Rattle.mesh_parents.proofs.head_of.Goals as goal
 pub returns : goal.returns
 unfolding pair_key
 returns c =
-    let heads = c.args.heads.now in
+    let heads = c.args.links.now.heads.now in
     c.first.ensures ∙ ap (λ (x : ℕ). get_or heads (key_among (length heads) x) 0) c.pair_sum.ensures

@@ -2,5 +2,5 @@
 -- Assumes nothing.
 use Rattle.mesh_parents.proofs.link_pairs.Goals as goal
 
-pub returns : goal.returns
-returns c = rw (← c.clear.ensures) c.link_all.ensures
+pub returns-clause-linked : goal.returns-clause-linked
+returns-clause-linked c = rw (← c.clear.ensures.cleared) c.link_all.ensures.linked

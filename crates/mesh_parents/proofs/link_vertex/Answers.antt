@@ -2,5 +2,5 @@
 -- Assumes nothing.
 use Rattle.mesh_parents.proofs.link_vertex.Goals as goal
 
-pub returns : goal.returns
-returns c = rw (← c.vertex_key-key.ensures) c.push.ensures
+pub returns-clause-linked : goal.returns-clause-linked
+returns-clause-linked c = rw (c.push.ensures.pushed, c.vertex_key-key.ensures, c.keys.ensures)

@@ -5,12 +5,12 @@ use borrow.Author.Tests.{lt-ltb, le-ltb}
 use Rattle.mesh_parents.specs.Pairs.{pair_key, key_of}
 use Rattle.mesh_parents.proofs.vertex_key.Goals as goal
 
-pub returns-then-v-h : goal.returns-then-v-h
+pub returns-then-v-mesh : goal.returns-then-v-mesh
 unfolding key_of
-returns-then-v-h c = rw (lt-ltb _ _ c.if-v-h.true)
+returns-then-v-mesh c = rw (lt-ltb _ _ c.if-v-mesh.true)
 
 pub returns : goal.returns
 unfolding key_of
 returns c =
-    rw (le-ltb _ _ c.if-v-h.false)
-    (c.pair_key.ensures ∙ ap (pair_key c.args.keys) c.parents_in.ensures)
+    rw (le-ltb _ _ c.if-v-mesh.false)
+    (c.pair_key.ensures ∙ ap (pair_key c.args.keys) c.parents.ensures)

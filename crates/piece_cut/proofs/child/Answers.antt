@@ -7,8 +7,8 @@ pub returns : goal.returns
 unfolding child_of child_shape
 returns c =
     rw (
-      ← c.child_corners-corners.ensures,
-      ← c.refinement_edge-edge.ensures,
+      ← c.child_corners.ensures,
+      ← c.refinement_edge.ensures,
       ← c.child_mark.ensures,
       ← c.child_mark-2.ensures,
       ← c.child_mark-3.ensures,

@@ -18,7 +18,7 @@ returns-in-1 c = ⊎_elim (λ h. rw h) (λ h. rw h) c.in-1.is
 
 pub returns-in_default : goal.returns-in_default
 unfolding high_slot all_below fold_below
-returns-in_default c = high_past _ c.in_default.if-e-lt6-own.false
+returns-in_default c = high_past _ (omega arith)
 
 pub returns-in-2 : goal.returns-in-2
 unfolding high_slot all_below fold_below
@@ -28,4 +28,4 @@ pub returns-in-2-2 : goal.returns-in-2-2
 unfolding high_slot all_below fold_below
 returns-in-2-2 c = let one : c.args.e ≡ 1 → ⊥ = λ h. c.in-2.in_default-own.rest.0.1 (inl h) in
     let three : c.args.e ≡ 3 → ⊥ = λ h. c.in-2.in_default-own.rest.0.1 (inr h) in
-    same_from high_slot 3 4 2 refl _ (omega arith) c.in-2.if-e-lt6-own.true
+    same_from high_slot 3 4 2 refl _ (omega arith) (omega arith)

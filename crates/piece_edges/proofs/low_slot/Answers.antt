@@ -13,11 +13,11 @@ returns-in-5 c = rw c.in-5.is
 
 pub returns-in-0 : goal.returns-in-0
 unfolding low_slot all_below fold_below
-returns-in-0 c = same_from low_slot 0 0 3 refl _ (omega arith) c.in-0.if-e-lt3-own.true
+returns-in-0 c = same_from low_slot 0 0 3 refl _ (omega arith) (omega arith)
 
 pub returns-in-3 : goal.returns-in-3
 unfolding low_slot all_below fold_below
-returns-in-3 c = same_from low_slot 1 3 2 refl _ c.in-3.if-e-lt3-own.false c.in-3.if-e-lt5-own.true
+returns-in-3 c = same_from low_slot 1 3 2 refl _ (omega arith) (omega arith)
 
 pub returns-in_default : goal.returns-in_default
 unfolding low_slot all_below fold_below

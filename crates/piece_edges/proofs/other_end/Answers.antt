@@ -1,13 +1,13 @@
--- `piece_edges::other_end`: each way out is one case of the definition, at what the calls return.
+-- `piece_edges::other_end`: it is the definition at what the calls return.
 -- Assumes nothing.
-use borrow.Author.Tests.{eq-eqb, ne_eqb}
+use Rattle.std.proofs.Common.{rules}
 use Rattle.piece_edges.specs.Edges.{other_end}
 use Rattle.piece_edges.proofs.other_end.Goals as goal
 
 pub returns-then-low-k : goal.returns-then-low-k
 unfolding other_end
-returns-then-low-k c = rw (← c.low_slot-low.ensures, eq-eqb _ _ c.if-low-k.true) c.high_slot.ensures
+returns-then-low-k c = search rules
 
-pub returns : goal.returns
+pub returns-else-low-k : goal.returns-else-low-k
 unfolding other_end
-returns c = rw (← c.low_slot-low.ensures, ne_eqb _ _ c.if-low-k.false)
+returns-else-low-k c = search rules

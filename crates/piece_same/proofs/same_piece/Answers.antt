@@ -1,25 +1,34 @@
--- `piece_same::same_piece`: each way out is one case of the definition, at what the calls return.
+-- `piece_same::same_piece`: the derived equality and the definition both pass exactly where the pieces are one.
 -- Assumes nothing.
-use borrow.Author.Tests.{eq-eqb, ne_eqb}
-use Rattle.piece.specs.Same.{same_piece}
+use Rattle.std.proofs.Common.{rules}
+use mathlib.Core.Path.{◌≡◌, ap, subst}
+use mathlib.Core.Bool.{true, ◌&&◌}
+use lib.Dec.{eqb}
+use lib.ListN.{length}
+use lib.Pointwise.{pointwise, bytes_decides}
+use Rattle.std.specs.Bool.{Decides}
+use Rattle.std.proofs.lemmas.Bool.Decides.{Decides-like, Decides-and, Decides-at, Decides-eqb, same_from_decides}
+use Rattle.piece.specs.declared.Piece.{Piece}
+use Rattle.piece.specs.Same.{same_piece, same_piece_is, same_piece_refl}
 use Rattle.piece_same.proofs.same_piece.Goals as goal
 
-pub returns-then-p-q : goal.returns-then-p-q
-unfolding same_piece
-returns-then-p-q c = rw (ne_eqb _ _ c.if-p-q.true)
+-- The derived equality compares field by field, in the order in which they are declared.
+derived : (p q : Piece) → Decides (pointwise eqb p.corners q.corners && (eqb p.edge q.edge && (pointwise eqb p.marks q.marks && (eqb p.flag q.flag && (eqb p.generation q.generation && eqb p.material q.material))))) (p ≡ q)
+derived p q =
+    Decides-like _
+    (λ h. λ i. record { corners = h.0 i; edge = h.1.0 i; marks = h.1.1.0 i; flag = h.1.1.1.0 i; generation = h.1.1.1.1.0 i; material = h.1.1.1.1.1 i })
+    (λ e. (ap (λ (r : Piece). r.corners) e, (ap (λ (r : Piece). r.edge) e, (ap (λ (r : Piece). r.marks) e, (ap (λ (r : Piece). r.flag) e, (ap (λ (r : Piece). r.generation) e, ap (λ (r : Piece). r.material) e))))))
+    (Decides-and _ _ (bytes_decides p.corners q.corners)
+    (Decides-and _ _ (Decides-eqb p.edge q.edge)
+    (Decides-and _ _ (bytes_decides p.marks q.marks)
+    (Decides-and _ _ (Decides-eqb p.flag q.flag)
+    (Decides-and _ _ (Decides-eqb p.generation q.generation) (Decides-eqb p.material q.material))))))
 
-pub returns-then-p-q-2 : goal.returns-then-p-q-2
-unfolding same_piece
-returns-then-p-q-2 c = rw (eq-eqb _ _ c.if-p-q.false, ne_eqb _ _ c.if-p-q-2.true)
-
-pub returns-then-p-q-3 : goal.returns-then-p-q-3
-unfolding same_piece
-returns-then-p-q-3 c = rw (eq-eqb _ _ c.if-p-q.false, eq-eqb _ _ c.if-p-q-2.false, ne_eqb _ _ c.if-p-q-3.true)
-
-pub returns-then-p-q-4 : goal.returns-then-p-q-4
-unfolding same_piece
-returns-then-p-q-4 c = rw (eq-eqb _ _ c.if-p-q.false, eq-eqb _ _ c.if-p-q-2.false, eq-eqb _ _ c.if-p-q-3.false, ne_eqb _ _ c.if-p-q-4.true)
+-- So does the definition, slot by slot.
+defined : (p q : Piece) → length p.corners ≡ 4 → length q.corners ≡ 4 → length p.marks ≡ 4 → length q.marks ≡ 4 → Decides (same_piece p q) (p ≡ q)
+defined p q pc qc pm qm = (same_piece_is p q pc qc pm qm, λ e. subst (λ (r : Piece). same_piece p r ≡ true) e (same_piece_refl p))
 
 pub returns : goal.returns
-unfolding same_piece
-returns c = rw (eq-eqb _ _ c.if-p-q.false, eq-eqb _ _ c.if-p-q-2.false, eq-eqb _ _ c.if-p-q-3.false, eq-eqb _ _ c.if-p-q-4.false) c.same_slots.ensures
+returns c =
+    let a = c.args in
+    same_from_decides _ _ (Decides-at _ _ c.eq.ensures (derived a.p a.q)) (defined a.p a.q (search rules) (search rules) (search rules) (search rules))

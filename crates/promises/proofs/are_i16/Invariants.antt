@@ -7,6 +7,3 @@ use Rattle.promises.proofs.are_i16.Given as goal
 
 abbrev pub invariant-loop-i : goal.invariant-loop-i
 invariant-loop-i l = (l.i ≤ length l.coordinates) × ((k : ℕ) → k < l.i → I16 (get_or l.coordinates k (pos 0)))
-
-abbrev pub decreases-loop-i : goal.decreases-loop-i
-decreases-loop-i l = length l.coordinates - l.i

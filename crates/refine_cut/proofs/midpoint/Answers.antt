@@ -5,4 +5,4 @@ use Rattle.refine_cut.proofs.midpoint.Goals as goal
 
 pub returns : goal.returns
 unfolding midpoint_of
-returns c = rw (c.halfway-place.ensures, c.vertex_in-one.ensures, c.vertex_in-other.ensures)
+returns c = rw (c.halfway.ensures, c.vertex-one.ensures, c.vertex-other.ensures)

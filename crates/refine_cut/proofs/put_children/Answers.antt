@@ -2,23 +2,10 @@
 -- Assumes nothing.
 use Prim.Native.Nat.{◌+◌}
 use mathlib.Core.Path.{refl}
-use native.Mathlib.Omega.{arith}
 use Rattle.refine_cut.specs.Cut.{cut_record, leaf_record}
 use Rattle.refine_cut.specs.Slices.{slices}
 use Rattle.refine_cut.specs.Steps.{record_written, children_written}
 use Rattle.refine_cut.proofs.put_children.Goals as goal
-
-pub overflow_cast-first : goal.overflow_cast-first
-overflow_cast-first c = record { fits = omega (arith, c.requires) }
-
-pub overflow_cast-first-2 : goal.overflow_cast-first-2
-overflow_cast-first-2 c = record { fits = omega (arith, c.requires) }
-
-pub overflow_add-first : goal.overflow_add-first
-overflow_add-first c = record { fits = omega (arith, c.requires) }
-
-pub overflow_add-result : goal.overflow_add-result
-overflow_add-result c = record { fits = omega (arith, c.requires) }
 
 pub returns : goal.returns
 returns c =

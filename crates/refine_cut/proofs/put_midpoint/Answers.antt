@@ -1,14 +1,10 @@
 -- `refine_cut::put_midpoint`: the vertex is there, or appended.
 -- Assumes nothing.
-use native.Mathlib.Omega.{arith}
 use Rattle.refine_cut.specs.Steps.{midpoint_there, midpoint_appended}
 use Rattle.refine_cut.proofs.put_midpoint.Goals as goal
 
 pub returns-then-w-h : goal.returns-then-w-h
 returns-then-w-h c = let a = c.args in midpoint_there a.l a.h a.base.now a.grown.now a.ends a.w c.if-w-h.true
-
-pub overflow_add-result : goal.overflow_add-result
-overflow_add-result c = record { fits = omega (arith, c.requires) }
 
 pub returns : goal.returns
 returns c =

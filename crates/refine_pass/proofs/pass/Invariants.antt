@@ -1,8 +1,6 @@
 -- `refine_pass::pass` has made the turns before n, of the records that the table has, and the links are those of the vertices then.
 -- Assumes nothing.
-use Prim.Native.Nat.{◌≤◌, ◌-◌}
 use mathlib.Core.Path.{◌≡◌}
-use lib.ListN.{length}
 use Rattle.laws.specs.Counts.{marked}
 use Rattle.refine_cut.specs.Slices.{slices}
 use Rattle.refine_pass.specs.Puts.{turns_put}
@@ -10,7 +8,4 @@ use Rattle.refine_pass.specs.Linked.{AtWork}
 use Rattle.refine_pass.proofs.pass.Given as goal
 
 abbrev pub invariant-loop-n : goal.invariant-loop-n
-invariant-loop-n l = (l.n ≤ l.records) × (slices l.with l.base l.grown ≡ turns_put l.most l.l (marked l.chosen) l.n (slices l.initial.with l.initial.base l.initial.grown)) × AtWork l.most l.l (slices l.with l.base l.grown) l.heads l.nexts × (length l.base ≡ length l.initial.base) × (length l.grown ≡ length l.initial.grown) × (length l.heads ≡ length l.initial.heads) × (length l.nexts ≡ length l.initial.nexts)
-
-abbrev pub decreases-loop-n : goal.decreases-loop-n
-decreases-loop-n l = l.records - l.n
+invariant-loop-n l = (slices l.with l.base l.grown ≡ turns_put l.most l.l (marked l.chosen) l.n (slices l.initial.with l.initial.base l.initial.grown)) × AtWork l.most l.l (slices l.with l.base l.grown) l.links.heads.now l.links.nexts.now

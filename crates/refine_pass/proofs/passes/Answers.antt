@@ -1,7 +1,5 @@
 -- `refine_pass::passes`: pass one of the records that the table has, which are those that the selection names; then the closing.
 -- Assumes nothing.
-use mathlib.Core.Path.{◌∙◌}
-use native.Mathlib.Omega.{arith}
 use lib.ListN.{length}
 use Rattle.stored.specs.Layout.{selection_in, named_in}
 use Rattle.refine_selection.specs.Selected.{is_named}
@@ -9,9 +7,6 @@ use Rattle.refine_cut.specs.Slices.{slices}
 use Rattle.refine_pass.specs.Steps.{refined_is}
 use Rattle.refine_pass.specs.Chosen.{named_pass}
 use Rattle.refine_pass.proofs.passes.Goals as goal
-
-pub close-requires : goal.close-requires
-close-requires c = record { at_work = c.pass-with.ensures.at_work; records_in_bounds = omega (arith, c.chosen-1.given, c.requires.records_in_bounds_2) }
 
 pub returns : goal.returns
 returns c =
@@ -23,6 +18,3 @@ returns c =
     let then = slices first.result first.new.base first.new.grown in
     refined_is a.most a.l (is_named a.count (named_in (selection_in a.l.format a.selection.now))) start then (slices last.result last.new.base last.new.grown)
     (named_pass a.most a.l (length a.chosen.now) (selection_in a.l.format a.selection.now) a.count table.new.chosen table.ensures start then c.requires.records_in_bounds first.ensures.grown_after) last.ensures
-
-pub shape_of-chosen : goal.shape_of-chosen
-shape_of-chosen c = c.chosen-2-1.given ∙ c.chosen-1.given

@@ -1,25 +1,19 @@
--- `refine_selection::names_cut` has passed no cut record before i.
+-- `refine_selection::names_cut` asks each named record in turn.
 -- Assumes nothing.
-use Prim.Native.Nat.{◌-◌}
-use mathlib.Core.Path.{sym, ◌∙◌}
-use mathlib.Core.Bool.{false}
-use native.Mathlib.Omega.{arith}
-use Rattle.laws.specs.Below.{any_none, any_next, any_is, any_end}
+use mathlib.Core.Path.{refl, ◌∙◌}
+use mathlib.Core.Bool.{not}
+use Rattle.std.proofs.Common.{arith, rules, tests}
+use Rattle.std.proofs.lemmas.Iterator.{YieldsList-from_range}
+use Rattle.std.proofs.lemmas.Iterator.Search.{any_from_yields_List}
+use Rattle.stored.specs.Layout.{selection_in, named_in}
+use Rattle.mesh_tables.specs.Tables.{uncut}
+use Rattle.stored_entries.specs.Mesh.{record_read}
+use Rattle.laws.specs.Ranges.{any_of_range}
 use Rattle.refine_selection.specs.Selected.{names_cut}
 use Rattle.refine_selection.proofs.names_cut.Goals as goal
 
-pub loop-i-init : goal.loop-i-init
-unfolding names_cut
-loop-i-init c = (omega arith, any_none _)
-
-pub returns-then-is_cut : goal.returns-then-is_cut
-unfolding names_cut
-returns-then-is_cut c = sym (any_is _ _ _ c.loop-i-test.true (sym c.is_cut.ensures ∙ c.if-is_cut.true))
-
-pub loop-i-preserved : goal.loop-i-preserved
-unfolding names_cut
-loop-i-preserved c = (omega arith, any_next _ _ c.loop-i.invariant.1 (sym c.is_cut.ensures ∙ c.if-is_cut.false))
-
 pub returns : goal.returns
 unfolding names_cut
-returns c = sym (any_end _ _ _ c.loop-i-test.false c.loop-i.invariant.0 c.loop-i.invariant.1)
+returns c =
+    any_from_yields_List (λ i. not (uncut (record_read c.args.mesh.now (named_in (selection_in c.args.mesh.now.layout.format c.args.selection.now) i)))) _ _ c.any.result c.any.ensures.ran (YieldsList-from_range 0 c.args.count c.args.count refl (omega arith)) (λ x b q k. search (rules, tests))
+    ∙ any_of_range c.args.count _

@@ -16,10 +16,10 @@ pub returns-then-names_last : goal.returns-then-names_last
 unfolding named_number first_broken
 returns-then-names_last c = rw (sym c.names_cut.ensures ∙ c.if-names_cut.false, sym c.names_last.ensures ∙ c.if-names_last.true)
 
-pub returns-then-h-eq-LAST_ROUND : goal.returns-then-h-eq-LAST_ROUND
+pub returns-then-mesh-eq-LAST_ROUND : goal.returns-then-mesh-eq-LAST_ROUND
 unfolding named_number first_broken round_row
-returns-then-h-eq-LAST_ROUND c = rw (sym c.names_cut.ensures ∙ c.if-names_cut.false, sym c.names_last.ensures ∙ c.if-names_last.false, eq-eqb _ last_round c.if-h-eq-LAST_ROUND.true)
+returns-then-mesh-eq-LAST_ROUND c = rw (sym c.names_cut.ensures ∙ c.if-names_cut.false, sym c.names_last.ensures ∙ c.if-names_last.false, eq-eqb _ last_round c.if-mesh-eq-LAST_ROUND.true)
 
 pub returns : goal.returns
 unfolding named_number first_broken round_row
-returns c = rw (sym c.names_cut.ensures ∙ c.if-names_cut.false, sym c.names_last.ensures ∙ c.if-names_last.false, ne_eqb _ last_round c.if-h-eq-LAST_ROUND.false)
+returns c = rw (sym c.names_cut.ensures ∙ c.if-names_cut.false, sym c.names_last.ensures ∙ c.if-names_last.false, ne_eqb _ last_round c.if-mesh-eq-LAST_ROUND.false)

@@ -4,7 +4,8 @@ use mathlib.Core.Path.{◌≡◌, refl, sym, ap, subst, ◌∙◌}
 use mathlib.Core.List.{List, []}
 use Prim.Native.Nat.{ℕ}
 use lib.ListN.{length}
-use borrow.Author.Tests.{ne_eqb}
+use Rattle.std.specs.Prelude.{Ok, Err}
+use Rattle.std.proofs.lemmas.Result.{err_from_is_err_and}
 use Rattle.laws.specs.Lists.{clear_itself, clear_long}
 use Rattle.stored.specs.declared.Kind.{Kind}
 use Rattle.stored.specs.declared.Layout.{Layout}
@@ -12,7 +13,8 @@ use Rattle.stored.specs.declared.Header.{Header}
 use Rattle.stored.specs.Layout.{kind1, header_from, layout_of, stored1, selection_in, selection1}
 use Rattle.mesh_tables.specs.Tables.{tables, tables_of}
 use Rattle.check_refusals.specs.Check.{check_number}
-use Rattle.refine_service.specs.Order.{selection_number}
+use Rattle.check_refusals.specs.Outcomes.{some_number}
+use Rattle.refine_service.specs.Order.{selection_number, verdict_number}
 use Rattle.refine_service.specs.Storing.{Copied, copied_ready, later_number, later_bytes, refine_judged, refine_selected, refine_later, refine_later_bytes}
 use Rattle.refine_service.proofs.refine.Goals as goal
 
@@ -25,37 +27,38 @@ tables_found k h l mesh selection is read laid =
     ∙ ap (λ (g : Header). selection_number (tables g (layout_of k g) mesh []) (selection_in k.format selection)) read
     ∙ ap (λ (j : Kind). selection_number (tables (header_from j.format mesh) (layout_of j (header_from j.format mesh)) mesh []) (selection_in j.format selection)) is
 
-pub returns-then-found-ne0 : goal.returns-then-found-ne0
-returns-then-found-ne0 c =
+pub returns-in_err-verdict : goal.returns-in_err-verdict
+returns-in_err-verdict c =
     let a = c.args in
     let mesh = stored1 a.mesh.now in
     let selection = selection1 a.selection.now in
     let room = length a.out.now in
-    let clear = c.clear in
-    let r = refine_judged mesh selection room (rw (← c.judged-found.ensures) (ne_eqb c.judged-found.result 0 c.if-found-ne0.true)) in
-    record { number = c.judged-found.ensures ∙ r.0; bytes = clear.ensures ∙ r.1 }
+    let p = err_from_is_err_and c.from_residual.result c.from_residual.ensures.1 in
+    let found = verdict_number mesh (Err _) c.in_err-verdict.ensures in
+    let r = refine_judged mesh selection room (rw (← found) (some_number _)) in
+    rw (p.1, p.2) (record { number = found ∙ r.0; bytes = c.fill.ensures.after (λ y e. e) ∙ r.1 })
 
-pub returns-then-refusal-ne0 : goal.returns-then-refusal-ne0
-returns-then-refusal-ne0 c =
+pub returns-in_err-selected : goal.returns-in_err-selected
+returns-in_err-selected c =
     let a = c.args in
     let mesh = stored1 a.mesh.now in
     let selection = selection1 a.selection.now in
     let room = length a.out.now in
-    let clear = c.clear in
-    let none : check_number mesh ≡ 0 = sym c.judged-found.ensures ∙ c.if-found-ne0.false in
-    let found : c.selected-refusal.result ≡ selection_number (tables_of mesh) selection = c.selected-refusal.ensures ∙ tables_found c.kind_1-k.result c.header_from-h.result c.layout_of.result a.mesh.now a.selection.now c.kind_1-k.ensures c.header_from-h.ensures c.layout_of.ensures in
-    let r = refine_selected mesh selection room none (rw (← found) (ne_eqb c.selected-refusal.result 0 c.if-refusal-ne0.true)) in
-    record { number = found ∙ r.0; bytes = clear.ensures ∙ r.1 }
+    let p = err_from_is_err_and c.from_residual-in_err-selected.result c.from_residual-in_err-selected.ensures.1 in
+    let none : check_number mesh ≡ 0 = sym (verdict_number mesh (Ok tt) c.in_ok-verdict.ensures) in
+    let found = c.in_err-selected.ensures ∙ tables_found c.kind_1-k.result c.header_from-h.result c.layout_of.result a.mesh.now a.selection.now c.kind_1-k.ensures c.header_from-h.ensures c.layout_of.ensures in
+    let r = refine_selected mesh selection room none (rw (← found) (some_number _)) in
+    rw (p.1, p.2) (record { number = found ∙ r.0; bytes = c.fill.ensures.after (λ y e. e) ∙ r.1 })
 
 pub store-requires : goal.store-requires
 store-requires c =
     let a = c.args in
     let mesh = stored1 a.mesh.now in
     let room = length a.out.now in
-    let clear = c.clear in
-    let none : check_number mesh ≡ 0 = sym c.judged-found.ensures ∙ c.if-found-ne0.false in
+    let out = c.fill.new.self in
+    let none : check_number mesh ≡ 0 = sym (verdict_number mesh (Ok tt) c.in_ok-verdict.ensures) in
     let header = c.header_from-h.ensures ∙ ap (λ (k : Kind). header_from k.format a.mesh.now) c.kind_1-k.ensures in
-    subst (λ (h : Header). Copied h mesh clear.new.s) (sym header) (copied_ready mesh refl clear.new.s none (clear_itself clear.new.s room clear.ensures))
+    subst (λ (h : Header). Copied h mesh out) (sym header) (copied_ready mesh refl out none (clear_itself out room (c.fill.ensures.after (λ y e. e))))
 
 pub returns : goal.returns
 returns c =
@@ -63,11 +66,10 @@ returns c =
     let mesh = stored1 a.mesh.now in
     let selection = selection1 a.selection.now in
     let room = length a.out.now in
-    let clear = c.clear in
-    let none : check_number mesh ≡ 0 = sym c.judged-found.ensures ∙ c.if-found-ne0.false in
-    let found : c.selected-refusal.result ≡ selection_number (tables_of mesh) selection = c.selected-refusal.ensures ∙ tables_found c.kind_1-k.result c.header_from-h.result c.layout_of.result a.mesh.now a.selection.now c.kind_1-k.ensures c.header_from-h.ensures c.layout_of.ensures in
-    let right = sym found ∙ c.if-refusal-ne0.false in
-    let long = clear_long clear.new.s room clear.ensures in
+    let out = c.fill.new.self in
+    let none : check_number mesh ≡ 0 = sym (verdict_number mesh (Ok tt) c.in_ok-verdict.ensures) in
+    let right = sym (c.in_ok-selected.ensures ∙ tables_found c.kind_1-k.result c.header_from-h.result c.layout_of.result a.mesh.now a.selection.now c.kind_1-k.ensures c.header_from-h.ensures c.layout_of.ensures) in
+    let long = clear_long out room (c.fill.ensures.after (λ y e. e)) in
     record {
       number = c.store.ensures.value ∙ ap (later_number mesh selection) long ∙ refine_later mesh selection room none right;
       bytes = c.store.ensures.out_after ∙ ap (later_bytes mesh selection) long ∙ refine_later_bytes mesh selection room none right;

@@ -8,4 +8,4 @@ use Rattle.slices.proofs.four.Goals as goal
 pub returns : goal.returns
 returns c =
     let args = c.args in
-    rw (c.two-low.ensures.value, c.two-high.ensures.value, c.after-rest.ensures) (sym (number_join 2 2 (drop args.at args.s.now)))
+    rw (c.two.ensures.value, c.two-2.ensures.value, c.after-rest.ensures) (sym (number_join 2 2 (drop args.at args.s.now)))

@@ -1,18 +1,11 @@
--- `stored_encoded::record_bytes` meets its contract: the fields, laid out one after the other in numbers of two bytes or of four.
+-- `stored_encoded::record_bytes` meets its contract: the fields, put one after the other.
 -- Assumes nothing.
-use mathlib.Core.List.{[], ◌∷◌}
-use Rattle.laws.specs.Numbers.{number_bytes}
-use Rattle.stored_encoded.specs.Laid.{wide_number, narrow_number, record_laid}
+use mathlib.Core.Path.{refl}
+use Rattle.stored_encoded.specs.Laid.{record_put}
 use Rattle.stored_encoded.proofs.record_bytes.Goals as goal
 
-pub returns-then-format : goal.returns-then-format
-unfolding number_bytes
-returns-then-format c =
-    let a = c.args in
-    record_laid a.format a.r [] 4 _ _ _ _ _ (wide_number a.format c.if-format.true) c.stored_or_none-first.ensures c.stored_or_none-second.ensures c.stored_or_none-third.ensures c.stored_or_none-fourth.ensures c.stored_or_none-child.ensures
-
 pub returns : goal.returns
-unfolding number_bytes
 returns c =
     let a = c.args in
-    record_laid a.format a.r (0 ∷ 0 ∷ 0 ∷ 0 ∷ 0 ∷ 0 ∷ 0 ∷ 0 ∷ 0 ∷ 0 ∷ []) 2 _ _ _ _ _ (narrow_number a.format c.if-format.false) c.stored_or_none-first.ensures c.stored_or_none-second.ensures c.stored_or_none-third.ensures c.stored_or_none-fourth.ensures c.stored_or_none-child.ensures
+    rw (c.put-5.ensures, c.put-4.ensures, c.put-3.ensures, c.put-2.ensures, c.put.ensures, c.edge_at-at.ensures.value, c.number_width-wide.ensures.value)
+    (record_put a.format a.r _ _ _ _ _ _ refl c.stored_or_none.ensures c.stored_or_none-2.ensures c.stored_or_none-3.ensures c.stored_or_none-4.ensures c.stored_or_none-5.ensures)

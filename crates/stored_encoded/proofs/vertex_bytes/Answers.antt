@@ -1,18 +1,10 @@
--- `stored_encoded::vertex_bytes` meets its contract: the fields, laid out one after the other in numbers of two bytes or of four.
+-- `stored_encoded::vertex_bytes` meets its contract: the fields, put one after the other.
 -- Assumes nothing.
-use mathlib.Core.List.{[], ◌∷◌}
-use Rattle.laws.specs.Numbers.{number_bytes}
-use Rattle.stored_encoded.specs.Laid.{wide_number, narrow_number, vertex_laid}
+use Rattle.stored_encoded.specs.Laid.{vertex_put}
 use Rattle.stored_encoded.proofs.vertex_bytes.Goals as goal
 
-pub returns-then-format : goal.returns-then-format
-unfolding number_bytes
-returns-then-format c =
-    let a = c.args in
-    vertex_laid a.format a.v [] 4 _ _ (wide_number a.format c.if-format.true) c.stored_or_none-p.ensures c.stored_or_none-q.ensures
-
 pub returns : goal.returns
-unfolding number_bytes
 returns c =
     let a = c.args in
-    vertex_laid a.format a.v (0 ∷ 0 ∷ 0 ∷ 0 ∷ []) 2 _ _ (narrow_number a.format c.if-format.false) c.stored_or_none-p.ensures c.stored_or_none-q.ensures
+    rw (c.put-5.ensures, c.put-4.ensures, c.put-3.ensures, c.put-2.ensures, c.put.ensures, c.from.ensures, c.from-2.ensures, c.from-3.ensures)
+    (vertex_put a.format a.v c.number_width.result c.stored_or_none.result c.stored_or_none-2.result c.number_width.ensures.value c.stored_or_none.ensures c.stored_or_none-2.ensures)

@@ -1,12 +1,8 @@
--- `stored_entries::four_of`: a number of four bytes is two of two.
+-- `stored_entries::four_of` meets its contract: the number byte by byte.
 -- Assumes nothing.
-use mathlib.Core.Path.{sym}
-use lib.ListN.{drop}
-use lib.Seq.{drop-drop}
-use Rattle.laws.specs.Numbers.{number_join}
+use mathlib.Core.Path.{◌∙◌}
+use Rattle.slices.specs.Bytes.{number_four_at}
 use Rattle.stored_entries.proofs.four_of.Goals as goal
 
 pub returns : goal.returns
-returns c =
-    let a = c.args in
-    rw (c.two_of-low.ensures.value, c.two_of-high.ensures.value, ← drop-drop 2 a.at a.s.now) (sym (number_join 2 2 (drop a.at a.s.now)))
+returns c = c.from_le_bytes.ensures ∙ number_four_at c.args.at c.args.s.now

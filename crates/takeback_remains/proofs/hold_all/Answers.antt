@@ -1,6 +1,5 @@
 -- `takeback_remains::hold_all`: the records before n have counted.
 -- Assumes nothing.
-use Prim.Native.Nat.{◌-◌}
 use mathlib.Core.Path.{sym}
 use native.Mathlib.Omega.{arith}
 use Rattle.laws.specs.Counts.{counts_none, counts_next, counts_end}

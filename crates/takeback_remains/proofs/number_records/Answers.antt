@@ -18,8 +18,8 @@ keep_all-requires c = c.requires.linked
 pub returns : goal.returns
 returns c =
     let a = c.args in
-    let h = a.h in
-    let m = tables h a.l a.base.now a.grown.now in
+    let h = a.mesh.now.header in
+    let m = tables h a.mesh.now.layout a.mesh.now.base.now a.mesh.now.grown.now in
     let size = length a.numbers.now in
     let kept : c.keep_all.new.kept ≡ kept_in m a.vertices.now (length a.counts.now) =
-    c.keep_all.ensures ∙ ap (λ (start : List ℕ). counts_below (kept_counted m a.vertices.now) start h.records) c.clear.ensures in record { numbers_after = c.number.ensures.numbers_after ∙ ap (λ (k : List ℕ). numbers_of (remains_by h.records h.base_records k) size) kept; value = c.number.ensures.value ∙ ap (λ (k : List ℕ). count_below size (remains_by h.records h.base_records k)) kept ∙ records_counted h.records h.base_records size _ c.requires.records_in_bounds }
+    c.keep_all.ensures ∙ ap (λ (start : List ℕ). counts_below (kept_counted m a.vertices.now) start h.records) (c.fill.ensures.after (λ y e. e)) in record { numbers_after = c.number.ensures.numbers_after ∙ ap (λ (k : List ℕ). numbers_of (remains_by h.records h.base_records k) size) kept; value = c.number.ensures.value ∙ ap (λ (k : List ℕ). count_below size (remains_by h.records h.base_records k)) kept ∙ records_counted h.records h.base_records size _ c.requires.records_in_bounds }

@@ -1,12 +1,12 @@
 -- `takeback_remains::remaining`: each way out is one case of the definition; the links are filled before they are asked.
 -- Assumes nothing.
-use mathlib.Core.Path.{◌≡◌, sym, ◌∙◌}
-use mathlib.Core.Bool.{false}
+use mathlib.Core.Path.{sym, ap, ◌∙◌}
 use native.Mathlib.Omega.{arith}
 use lib.ListN.{length}
-use Rattle.mesh_tables.specs.Tables.{tables}
-use Rattle.mesh_parents.specs.Pairs.{Linked, all_linked}
-use Rattle.takeback_remains.specs.Left.{Room, room, left_short, left_whole, all_numbered}
+use Rattle.laws.specs.Links.{Links}
+use Rattle.mesh_tables.specs.Tables.{tables_read}
+use Rattle.mesh_parents.specs.Pairs.{all_linked}
+use Rattle.takeback_remains.specs.Left.{room, left_short, left_whole, all_numbered}
 use Rattle.takeback_remains.proofs.remaining.Goals as goal
 
 pub returns-then-is_cramped : goal.returns-then-is_cramped
@@ -14,24 +14,29 @@ returns-then-is_cramped c = left_short _ _ _ _ (sym c.is_cramped.ensures ∙ c.i
 
 pub number_vertices-of_vertices-requires : goal.number_vertices-of_vertices-requires
 number_vertices-of_vertices-requires c =
-    let lent : c.is_cramped.result ≡ false → let a = c.args in Room a.h a.heads.now a.nexts.now a.counts.now a.vertices.now a.records.now = λ left. let a = c.args in room a.h a.heads.now a.nexts.now a.counts.now a.vertices.now a.records.now (sym c.is_cramped.ensures ∙ left) in
-    let linked : let a = c.args in Linked (tables a.h a.l a.base.now a.grown.now) c.link_pairs.new.heads c.link_pairs.new.nexts = let a = c.args in
-    all_linked (tables a.h a.l a.base.now a.grown.now) a.heads.now a.nexts.now (lent c.if-is_cramped.false).links _ _ c.link_pairs.ensures.heads_after c.link_pairs.ensures.nexts_after in
-    let fits = lent c.if-is_cramped.false in
-    record { linked = linked; vertices_in_bounds = fits.counts_vertices; vertices_in_bounds_2 = fits.vertices }
+    let a = c.args in
+    let fits = room a.mesh.now.header a.links.now.heads.now a.links.now.nexts.now a.counts.now a.vertices.now a.records.now (sym c.is_cramped.ensures ∙ c.if-is_cramped.false) in
+    let filled = c.link_pairs.ensures.linked in
+    record {
+      linked = all_linked (tables_read a.mesh.now) a.links.now.heads.now a.links.now.nexts.now fits.links _ _ (ap (λ (l : Links). l.heads) filled) (ap (λ (l : Links). l.nexts) filled);
+      vertices_in_bounds = fits.counts_vertices;
+      vertices_in_bounds_2 = fits.vertices;
+    }
 
 pub number_records-of_records-requires : goal.number_records-of_records-requires
 number_records-of_records-requires c =
-    let lent : c.is_cramped.result ≡ false → let a = c.args in Room a.h a.heads.now a.nexts.now a.counts.now a.vertices.now a.records.now = λ left. let a = c.args in room a.h a.heads.now a.nexts.now a.counts.now a.vertices.now a.records.now (sym c.is_cramped.ensures ∙ left) in
-    let linked : let a = c.args in Linked (tables a.h a.l a.base.now a.grown.now) c.link_pairs.new.heads c.link_pairs.new.nexts = let a = c.args in
-    all_linked (tables a.h a.l a.base.now a.grown.now) a.heads.now a.nexts.now (lent c.if-is_cramped.false).links _ _ c.link_pairs.ensures.heads_after c.link_pairs.ensures.nexts_after in
-    record { linked = linked; records_in_bounds = (lent c.if-is_cramped.false).records }
+    let a = c.args in
+    let fits = room a.mesh.now.header a.links.now.heads.now a.links.now.nexts.now a.counts.now a.vertices.now a.records.now (sym c.is_cramped.ensures ∙ c.if-is_cramped.false) in
+    let filled = c.link_pairs.ensures.linked in
+    record {
+      linked = all_linked (tables_read a.mesh.now) a.links.now.heads.now a.links.now.nexts.now fits.links _ _ (ap (λ (l : Links). l.heads) filled) (ap (λ (l : Links). l.nexts) filled);
+      records_in_bounds = fits.records;
+    }
 
 pub returns : goal.returns
 returns c =
-    let lent : c.is_cramped.result ≡ false → let a = c.args in Room a.h a.heads.now a.nexts.now a.counts.now a.vertices.now a.records.now = λ left. let a = c.args in room a.h a.heads.now a.nexts.now a.counts.now a.vertices.now a.records.now (sym c.is_cramped.ensures ∙ left) in
     let a = c.args in
-    let fits = lent c.if-is_cramped.false in
+    let fits = room a.mesh.now.header a.links.now.heads.now a.links.now.nexts.now a.counts.now a.vertices.now a.records.now (sym c.is_cramped.ensures ∙ c.if-is_cramped.false) in
     let of_vertices = c.number_vertices-of_vertices in
     let of_records = c.number_records-of_records in
     rw c.header_again.ensures

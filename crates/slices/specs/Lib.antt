@@ -1,0 +1,2 @@
+-- Numbers of several bytes, byte by byte.
+pub mod Bytes

@@ -1,8 +1,0 @@
--- `stored_entries::generation_in` meets its contract: one field of the record.
--- Assumes nothing.
-use Rattle.stored.specs.Layout.{record_in, record_from}
-use Rattle.stored_entries.proofs.generation_in.Goals as goal
-
-pub returns : goal.returns
-unfolding record_in record_from
-returns c = rw (c.byte.ensures, c.edge_at.ensures.value, c.record_held.ensures)
