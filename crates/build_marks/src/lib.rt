@@ -28,66 +28,10 @@ fn place_at(coordinates: &[i16], at: usize) -> u16
     place_for(coordinates.get(at).copied().unwrap_or(0))
 }
 
-#[tactic(auto, unfolding(crate::specs::Marking::plain_place))]
-fn plain_place(coordinates: &[i16], v: u32) -> Place
-    ensures { result ≡ plain_place coordinates.now v }
-{
-    let at = 3 * (v as usize);
-    Place {
-        x: place_at(coordinates, at),
-        y: place_at(coordinates, at + 1),
-        z: place_at(coordinates, at + 2),
-    }
-}
-
-#[tactic(auto, unfolding(crate::specs::Marking::plain_vertex))]
-pub fn plain_vertex(coordinates: &[i16], v: u32) -> Vertex
-    ensures { result ≡ plain_vertex coordinates.now v }
-{
-    Vertex {
-        place: plain_place(coordinates, v),
-        p: stored::NONE,
-        q: stored::NONE,
-    }
-}
-
 fn corner_at(corners: &[u16], at: usize) -> u32
     ensures { result ≡ get_or corners.now at 0 }
 {
     corners.get(at).map_or(0, |corner| u32::from(*corner))
-}
-
-#[tactic(auto, unfolding(crate::specs::Marking::plain_piece))]
-pub fn plain_piece(corners: &[u16], n: u32) -> Piece
-    ensures { result ≡ plain_piece corners.now n }
-{
-    let at = 4 * (n as usize);
-    Piece {
-        corners: [
-            corner_at(corners, at),
-            corner_at(corners, at + 1),
-            corner_at(corners, at + 2),
-            corner_at(corners, at + 3),
-        ],
-        edge: 0,
-        marks: [0; 4],
-        flag: 0,
-        generation: 0,
-        material: 0,
-    }
-}
-
-// The signed determinant of a piece with these corners.
-// Kept: `mesh_tables::signed_between` is alike but for where it reads the places, in a stored mesh; what the two share is `grid_volume::signed`.
-#[tactic(auto, unfolding(grid_volume::specs::Volume::differences_of))]
-pub fn signed_of(coordinates: &[i16], corners: [u32; 4]) -> i64
-    ensures { result ≡ signed_of (λ k. point_of (plain_place coordinates.now (get_or corners k 0))) }
-{
-    let a = plain_place(coordinates, corners[0]);
-    let b = plain_place(coordinates, corners[1]);
-    let c = plain_place(coordinates, corners[2]);
-    let d = plain_place(coordinates, corners[3]);
-    grid_volume::signed(a, b, c, d)
 }
 
 #[tactic(auto, unfolding(crate::specs::Marking::last_exchanged))]
@@ -98,17 +42,6 @@ fn last_exchanged(p: Piece) -> Piece
     Piece {
         corners: [s, t, v, u],
         ..p
-    }
-}
-
-#[tactic(auto, unfolding(crate::specs::Marking::righted_piece, grid_volume::specs::Volume::left_handed))]
-fn righted_piece(coordinates: &[i16], p: Piece) -> Piece
-    ensures { result ≡ righted_piece coordinates.now p }
-{
-    if grid_volume::is_negative(signed_of(coordinates, p.corners)) {
-        last_exchanged(p)
-    } else {
-        p
     }
 }
 
@@ -180,35 +113,111 @@ fn marked_by(p: Piece, edges: [Edge; 6]) -> Piece
     }
 }
 
-// Each corner's place is read once, and each edge's length taken once.
-fn marked_piece(coordinates: &[i16], p: Piece) -> Piece
-    ensures { result ≡ marked_piece coordinates.now p }
-{
-    let [s, t, u, v] = p.corners;
-    let a = plain_place(coordinates, s);
-    let b = plain_place(coordinates, t);
-    let c = plain_place(coordinates, u);
-    let d = plain_place(coordinates, v);
-    marked_by(
-        p,
-        [
-            edge_between(0, s, t, a, b),
-            edge_between(1, s, u, a, c),
-            edge_between(2, s, v, a, d),
-            edge_between(3, t, u, b, c),
-            edge_between(4, t, v, b, d),
-            edge_between(5, u, v, c, d),
-        ],
-    )
+// A mesh that is not marked yet: three coordinates a vertex, and four corners a piece.
+#[derive(Clone, Copy)]
+pub struct PlainMesh<'a> {
+    pub coordinates: &'a [i16],
+    pub corners: &'a [u16],
 }
 
-#[tactic(auto, unfolding(crate::specs::Marking::plain_record))]
-pub fn plain_record(coordinates: &[i16], corners: &[u16], n: u32) -> Record
-    ensures { result ≡ plain_record coordinates.now corners.now n }
-{
-    let piece = righted_piece(coordinates, plain_piece(corners, n));
-    Record {
-        piece: marked_piece(coordinates, piece),
-        first_child: stored::NONE,
+impl<'a> PlainMesh<'a> {
+    #[tactic(auto, unfolding(crate::specs::Marking::plain_place))]
+    fn place(&self, v: u32) -> Place
+        ensures { result ≡ plain_place self.now.coordinates.now v }
+    {
+        let at = 3 * (v as usize);
+        Place {
+            x: place_at(self.coordinates, at),
+            y: place_at(self.coordinates, at + 1),
+            z: place_at(self.coordinates, at + 2),
+        }
+    }
+
+    #[tactic(auto, unfolding(crate::specs::Marking::plain_vertex))]
+    pub fn vertex(&self, v: u32) -> Vertex
+        ensures { result ≡ plain_vertex self.now.coordinates.now v }
+    {
+        Vertex {
+            place: self.place(v),
+            p: stored::NONE,
+            q: stored::NONE,
+        }
+    }
+
+    #[tactic(auto, unfolding(crate::specs::Marking::plain_piece))]
+    pub fn piece(&self, n: u32) -> Piece
+        ensures { result ≡ plain_piece self.now.corners.now n }
+    {
+        let at = 4 * (n as usize);
+        Piece {
+            corners: [
+                corner_at(self.corners, at),
+                corner_at(self.corners, at + 1),
+                corner_at(self.corners, at + 2),
+                corner_at(self.corners, at + 3),
+            ],
+            edge: 0,
+            marks: [0; 4],
+            flag: 0,
+            generation: 0,
+            material: 0,
+        }
+    }
+
+    // The signed determinant of a piece with these corners.
+    // Kept: `mesh_tables::signed_between` is alike but for where it reads the places, in a stored mesh; what the two share is `grid_volume::signed`.
+    #[tactic(auto, unfolding(grid_volume::specs::Volume::differences_of))]
+    pub fn signed_of(&self, corners: [u32; 4]) -> i64
+        ensures { result ≡ signed_of (λ k. point_of (plain_place self.now.coordinates.now (get_or corners k 0))) }
+    {
+        let a = self.place(corners[0]);
+        let b = self.place(corners[1]);
+        let c = self.place(corners[2]);
+        let d = self.place(corners[3]);
+        grid_volume::signed(a, b, c, d)
+    }
+
+    #[tactic(auto, unfolding(crate::specs::Marking::righted_piece, grid_volume::specs::Volume::left_handed))]
+    fn righted_piece(&self, p: Piece) -> Piece
+        ensures { result ≡ righted_piece self.now.coordinates.now p }
+    {
+        if grid_volume::is_negative(self.signed_of(p.corners)) {
+            last_exchanged(p)
+        } else {
+            p
+        }
+    }
+
+    // Each corner's place is read once, and each edge's length taken once.
+    fn marked_piece(&self, p: Piece) -> Piece
+        ensures { result ≡ marked_piece self.now.coordinates.now p }
+    {
+        let [s, t, u, v] = p.corners;
+        let a = self.place(s);
+        let b = self.place(t);
+        let c = self.place(u);
+        let d = self.place(v);
+        marked_by(
+            p,
+            [
+                edge_between(0, s, t, a, b),
+                edge_between(1, s, u, a, c),
+                edge_between(2, s, v, a, d),
+                edge_between(3, t, u, b, c),
+                edge_between(4, t, v, b, d),
+                edge_between(5, u, v, c, d),
+            ],
+        )
+    }
+
+    #[tactic(auto, unfolding(crate::specs::Marking::plain_record))]
+    pub fn record(&self, n: u32) -> Record
+        ensures { result ≡ plain_record self.now.coordinates.now self.now.corners.now n }
+    {
+        let piece = self.righted_piece(self.piece(n));
+        Record {
+            piece: self.marked_piece(piece),
+            first_child: stored::NONE,
+        }
     }
 }

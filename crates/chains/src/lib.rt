@@ -43,6 +43,7 @@ pub fn count(table: &mut [u16], i: usize)
     table[i] += 1;
 }
 
+// Kept numbers: a head or a link is one more than the number that it leads to, and 0 where there is none, as the lent lists hold them.
 // Links that are lent: at each key the head, and at each number its link.
 #[derive(Drop)]
 pub struct Links<'h, 'n> {
@@ -121,6 +122,7 @@ impl Links<'_, '_> {
         requires { F.IsAlwaysCallable test }
         ensures { (P : ℕ → Bool) → ((u : ℕ) (yes : Bool) → u < 2 ^ 64 → F.post test u yes → yes ≡ P u) → result ≡ any_along self.now.nexts.now P from }
     {
+        // No index is counted: a turn goes where a link leads.
         let mut to = from;
         while 0 < to {
             let u = to - 1;
@@ -138,6 +140,7 @@ impl Links<'_, '_> {
         ensures { (P : ℕ → Bool) → ((u : ℕ) (yes : Bool) → u < 2 ^ 64 → F.post test u yes → yes ≡ P u) → result ≡ first_along self.now.nexts.now P from otherwise }
     {
         let mut found = otherwise;
+        // As in `any`, no index is counted.
         let mut to = from;
         while 0 < to {
             let u = to - 1;

@@ -9,7 +9,6 @@ ghost use Rattle.std.specs.Prelude.{◌≡◌, false, ◌||◌, ◌≤◌, lengt
 ghost use Rattle.laws.specs.Below.{any_below};
 ghost use Rattle.piece.specs.Same.{same_piece};
 ghost use Rattle.mesh_tables.specs.Tables.{tables_read, tables, vertex_with, refinement_ends};
-ghost use Rattle.mesh_parents.specs.Pairs.{Linked};
 ghost use Rattle.check_refusals.specs.Refusals.{bad_children, too_deep, bad_cut, bad_record, bad_cuts};
 ghost use Rattle.laws.specs.Counts.{counts_below};
 ghost use Rattle.check_children.specs.Children.{children_counted, not_child_of_one_by, bad_record_by};
@@ -18,17 +17,10 @@ ghost use Rattle.check_children.specs.Midpoints.{midpoint_counted, no_midpoint_b
 ghost use Rattle.stored_entries.specs.Mesh.{record_read};
 
 use chains::Links;
-use piece::{Ends, Piece};
+use mesh_parents::LinkedMesh;
+use piece::Piece;
 use stored::{Header, Record};
 use stored_entries::Mesh;
-
-// The vertex with these parents; the count of vertices where there is none.
-fn vertex_with(mesh: &Mesh, links: &Links, ends: Ends) -> usize
-    requires { Linked (tables_read mesh.now) links.now.heads.now links.now.nexts.now }
-    ensures { result ≡ vertex_with (tables_read mesh.now) ends }
-{
-    mesh_parents::first_with(mesh, links, ends)
-}
 
 // ---- records
 
@@ -57,19 +49,18 @@ fn bad_children(mesh: &Mesh, n: usize, r: Record, w: usize) -> bool
 }
 
 // A cut record counts one more at the vertex halfway on its refinement edge: tested and counted at once, since to find that vertex is what takes time.
-fn bad_cut(midpoints: &mut [u16], mesh: &Mesh, links: &Links, n: usize) -> bool
-    requires { Linked (tables_read mesh.now) links.now.heads.now links.now.nexts.now }
-    ensures value { result ≡ bad_cut (tables_read mesh.now) n }
-    ensures midpoints_after { midpoints.new ≡ midpoint_counted (tables_read mesh.now) midpoints.old n }
+fn bad_cut(midpoints: &mut [u16], linked: &LinkedMesh, n: usize) -> bool
+    ensures value { result ≡ bad_cut (tables_read linked.now.mesh.now) n }
+    ensures midpoints_after { midpoints.new ≡ midpoint_counted (tables_read linked.now.mesh.now) midpoints.old n }
 {
-    if mesh_tables::is_leaf(mesh, n) {
+    if mesh_tables::is_leaf(linked.mesh, n) {
         return false;
     }
-    let record = mesh.record(n);
+    let record = linked.mesh.record(n);
     let ends = piece::ends_of(record.piece, record.piece.edge);
-    let w = vertex_with(mesh, links, ends);
+    let w = linked.vertex_with(ends);
     chains::count(midpoints, w);
-    bad_children(mesh, n, record, w)
+    bad_children(linked.mesh, n, record, w)
 }
 
 // Whether record c is beyond the base, and the table does not have it as the child of exactly one.
@@ -88,25 +79,23 @@ fn too_deep(mesh: &Mesh, n: usize) -> bool
 }
 
 #[tactic(auto, unfolding(crate::specs::Children::bad_record_by))]
-fn bad_record(midpoints: &mut [u16], mesh: &Mesh, links: &Links, children: &[u16], n: usize) -> bool
-    requires { Linked (tables_read mesh.now) links.now.heads.now links.now.nexts.now }
-    ensures value { result ≡ bad_record_by (tables_read mesh.now) children.now n }
-    ensures midpoints_after { midpoints.new ≡ midpoint_counted (tables_read mesh.now) midpoints.old n }
+fn bad_record(midpoints: &mut [u16], linked: &LinkedMesh, children: &[u16], n: usize) -> bool
+    ensures value { result ≡ bad_record_by (tables_read linked.now.mesh.now) children.now n }
+    ensures midpoints_after { midpoints.new ≡ midpoint_counted (tables_read linked.now.mesh.now) midpoints.old n }
 {
-    bad_cut(midpoints, mesh, links, n)
-        || not_child_of_one(mesh.header, children, n)
-        || too_deep(mesh, n)
+    bad_cut(midpoints, linked, n)
+        || not_child_of_one(linked.mesh.header, children, n)
+        || too_deep(linked.mesh, n)
 }
 
 // Where no record is refused, all have counted.
-fn any_bad_record(midpoints: &mut [u16], mesh: &Mesh, links: &Links, children: &[u16]) -> bool
-    requires { Linked (tables_read mesh.now) links.now.heads.now links.now.nexts.now }
-    ensures value { result ≡ any_below mesh.now.header.records (bad_record_by (tables_read mesh.now) children.now) }
-    ensures midpoints_after { result ≡ false → midpoints.new ≡ counts_below (midpoint_counted (tables_read mesh.now)) midpoints.old mesh.now.header.records }
+fn any_bad_record(midpoints: &mut [u16], linked: &LinkedMesh, children: &[u16]) -> bool
+    ensures value { result ≡ any_below linked.now.mesh.now.header.records (bad_record_by (tables_read linked.now.mesh.now) children.now) }
+    ensures midpoints_after { result ≡ false → midpoints.new ≡ counts_below (midpoint_counted (tables_read linked.now.mesh.now)) midpoints.old linked.now.mesh.now.header.records }
 {
-    let count = mesh.header.records as usize;
+    let count = linked.mesh.header.records as usize;
     for n in 0..count {
-        if bad_record(midpoints, mesh, links, children, n) {
+        if bad_record(midpoints, linked, children, n) {
             return true;
         }
     }
@@ -135,39 +124,36 @@ fn count_all_children(children: &mut [u16], mesh: &Mesh, count: usize)
     }
 }
 
-fn bad_records(midpoints: &mut [u16], mesh: &Mesh, links: &Links, children: &mut [u16]) -> bool
-    requires linked { Linked (tables_read mesh.now) links.now.heads.now links.now.nexts.now }
-    requires records_in_bounds { mesh.now.header.records ≤ length children.old }
-    ensures value { result ≡ any_below mesh.now.header.records (bad_record (tables_read mesh.now)) }
-    ensures midpoints_after { result ≡ false → midpoints.new ≡ counts_below (midpoint_counted (tables_read mesh.now)) midpoints.old mesh.now.header.records }
+fn bad_records(midpoints: &mut [u16], linked: &LinkedMesh, children: &mut [u16]) -> bool
+    requires { linked.now.mesh.now.header.records ≤ length children.old }
+    ensures value { result ≡ any_below linked.now.mesh.now.header.records (bad_record (tables_read linked.now.mesh.now)) }
+    ensures midpoints_after { result ≡ false → midpoints.new ≡ counts_below (midpoint_counted (tables_read linked.now.mesh.now)) midpoints.old linked.now.mesh.now.header.records }
 {
     children.fill(0);
-    count_all_children(children, mesh, mesh.header.records as usize);
-    any_bad_record(midpoints, mesh, links, children)
+    count_all_children(children, linked.mesh, linked.mesh.header.records as usize);
+    any_bad_record(midpoints, linked, children)
 }
 
 // ---- made vertices
 
 // Whether vertex v is made, and the table does not have the first vertex with its parents.
 #[tactic(auto, unfolding(crate::specs::Midpoints::no_midpoint_by))]
-fn no_midpoint(mesh: &Mesh, links: &Links, midpoints: &[u16], v: usize) -> bool
-    requires { Linked (tables_read mesh.now) links.now.heads.now links.now.nexts.now }
-    ensures { result ≡ no_midpoint_by (tables_read mesh.now) midpoints.now v }
+fn no_midpoint(linked: &LinkedMesh, midpoints: &[u16], v: usize) -> bool
+    ensures { result ≡ no_midpoint_by (tables_read linked.now.mesh.now) midpoints.now v }
 {
-    if v < mesh.header.base_vertices as usize {
+    if v < linked.mesh.header.base_vertices as usize {
         return false;
     }
-    let ends = mesh.parents(v);
-    let w = vertex_with(mesh, links, ends);
+    let ends = linked.mesh.parents(v);
+    let w = linked.vertex_with(ends);
     chains::at(midpoints, w) == 0
 }
 
-fn no_midpoints(mesh: &Mesh, links: &Links, midpoints: &[u16]) -> bool
-    requires { Linked (tables_read mesh.now) links.now.heads.now links.now.nexts.now }
-    ensures { result ≡ any_below mesh.now.header.vertices (no_midpoint_by (tables_read mesh.now) midpoints.now) }
+fn no_midpoints(linked: &LinkedMesh, midpoints: &[u16]) -> bool
+    ensures { result ≡ any_below linked.now.mesh.now.header.vertices (no_midpoint_by (tables_read linked.now.mesh.now) midpoints.now) }
 {
-    let count = mesh.header.vertices as usize;
-    (0..count).any(|v| no_midpoint(mesh, links, midpoints, v))
+    let count = linked.mesh.header.vertices as usize;
+    (0..count).any(|v| no_midpoint(linked, midpoints, v))
 }
 
 // Whether what is lent has no room for the links of all vertices, or no place for some record or vertex.
@@ -188,6 +174,10 @@ pub fn bad_cuts(mesh: &Mesh, links: &mut Links, children: &mut [u16], midpoints:
         return true;
     }
     mesh_parents::link_pairs(mesh, links);
+    let linked = LinkedMesh {
+        mesh,
+        links: &*links,
+    };
     midpoints.fill(0);
-    bad_records(midpoints, mesh, links, children) || no_midpoints(mesh, links, midpoints)
+    bad_records(midpoints, &linked, children) || no_midpoints(&linked, midpoints)
 }

@@ -3,10 +3,11 @@
 
 ghost use Rattle.std.specs.Prelude.{◌≡◌};
 ghost use Rattle.mesh_tables.specs.Tables.{tables_read};
-ghost use Rattle.mesh_parents.specs.Pairs.{Linked};
 ghost use Rattle.check_hanging.specs.Hanging.{found_of, found_along};
 
 use chains::Links;
+use mesh_parents::LinkedMesh;
+use piece::Ends;
 use stored_entries::Mesh;
 
 // An edge of a record: the record's number and an edge code.
@@ -18,24 +19,26 @@ pub struct HangingEdge {
 
 // The search over records, six edge codes and made vertices, of these only the ones with the key of the edge's ends, left with the place
 // found.
-fn search(mesh: &Mesh, links: &Links) -> Option<HangingEdge>
-    requires { Linked (tables_read mesh.now) links.now.heads.now links.now.nexts.now }
-    ensures { result ≡ found_of (tables_read mesh.now) }
+fn search(linked: &LinkedMesh) -> Option<HangingEdge>
+    ensures { result ≡ found_of (tables_read linked.now.mesh.now) }
 {
-    let all_records = mesh.header.records as usize;
+    let all_records = linked.mesh.header.records as usize;
     let mut found = None;
     'search: for n in 0..all_records {
-        if !mesh_tables::is_leaf(mesh, n) {
+        if !mesh_tables::is_leaf(linked.mesh, n) {
             continue 'search;
         }
-        let corners = mesh.corners(n);
-        if !mesh_hanging::any_linked(links, corners) {
+        let corners = linked.mesh.corners(n);
+        if !mesh_hanging::any_linked(linked.links, corners) {
             continue 'search;
         }
         for e in 0..6u8 {
             let ends = piece::ends_at(corners, e);
-            let head = mesh_parents::head_of(links, ends);
-            if links.any(head, |v| mesh_parents::has_parents(mesh, ends, v)) {
+            let head = mesh_parents::head_of(linked.links, ends);
+            if linked
+                .links
+                .any(head, |v| mesh_parents::has_parents(linked.mesh, ends, v))
+            {
                 found = Some(HangingEdge { record: n, edge: e });
                 break 'search;
             }
@@ -56,5 +59,9 @@ pub fn first_hanging(mesh: &Mesh, links: &mut Links) -> Option<HangingEdge>
         return None;
     }
     mesh_parents::link_pairs(mesh, links);
-    search(mesh, links)
+    let linked = LinkedMesh {
+        mesh,
+        links: &*links,
+    };
+    search(&linked)
 }

@@ -241,7 +241,7 @@ fn any_in_cell(
     )
 }
 
-// Those in a row of cells, in a layer and in a block.
+// Those in a row of cells, in a layer and in a block. Kept three: each goes along an axis of its own and asks the one before it.
 fn any_in_row(
     mesh: &Mesh,
     links: &Links,

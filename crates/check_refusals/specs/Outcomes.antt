@@ -128,9 +128,9 @@ only_5 HangingVertices e = absurd (true≢false (sym e))
 only_5 NamesUncut e = absurd (true≢false (sym e))
 
 -- A report has the number that C is given.
-pub report_number : (o : Result Unit Refusal) → (outcome_report o).number ≡ outcome_number o
-report_number (Ok u) = refl
-report_number (Err r) = of r
+pub outcome_reported : (o : Result Unit Refusal) → (outcome_report o).number ≡ outcome_number o
+outcome_reported (Ok u) = refl
+outcome_reported (Err r) = of r
   where
     of : (r : Refusal) → (refusal_report r).number ≡ refusal_number r
     of WrongLength = refl

@@ -77,7 +77,7 @@ pub fn outcome_number(outcome: Result<(), Refusal>) -> u32
     }
 }
 
-// What check returns.
+// What check returns. Kept numbers: it is C's struct.
 #[repr(C)]
 #[derive(Clone, Copy)]
 pub struct Report {

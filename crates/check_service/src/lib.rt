@@ -50,6 +50,7 @@ fn closed(mesh: &Mesh, heads: &mut [u16], links: &mut [u16]) -> Result<(), Refus
 }
 
 // Refusals 4, 5, 22, 6, 7, 8 and 23, of the vertices and the base, tried in this order.
+// Kept slices: two tables of heads use one list of links in turn, so neither pair is a value of its own here.
 fn judged_base(
     mesh: &Mesh,
     heads: &mut [u16],

@@ -3,6 +3,8 @@ use Rattle.std.specs.Prelude.{◌≡◌, ◌≢◌, ℕ, ◌+◌, ◌≤◌, ◌
 use Rattle.std.proofs.Math.Path.{refl, sym, ap}
 use Rattle.std.proofs.Common.{◌∙◌, add-zero, add_assoc, arith, length-append, eq-eqb, ne_eqb, lt-ltb, le-ltb}
 use Rattle.std.proofs.Math.Bool.{cond}
+use Rattle.std.specs.Borrow.{MutBor}
+use denote.Ref.{at_last}
 use mathlib.Core.List.{List, [], ◌∷◌, ◌++◌, append-nil}
 use Rattle.std.proofs.Math.ListN.{length}
 use Rattle.std.proofs.lemmas.List.Edits.{sets}
@@ -17,6 +19,7 @@ use Rattle.list_text.specs.Line.{Line, line, put}
 use Rattle.list_text.specs.Laws.{put_whole}
 use Rattle.list_lines.specs.Lines.{refused_line, heading_line, leaf_line}
 use Rattle.list_service.specs.declared.Listed.{Listed}
+use Rattle.list_service.specs.declared.Text.{Text}
 use Rattle.list_service.specs.Answer.{list_whole, list_short}
 use Rattle.list_service.specs.Listing.{largest_mesh, leaf_lines, mesh_lines, judged_lines, lines_of, text_of, listing_of, listed_number, list_number, ListOutcomeIs}
 
@@ -37,6 +40,31 @@ put_then {a} {b} {c} {s} {t} {at} {p} {q} f g =
 
 pub put_length : {a b s : List ℕ} {at p : ℕ} → TextPut a at s b p → length b ≡ length a
 put_length {a} {b} {s} {at} f = ap length f.bytes ∙ length-sets a at s
+
+-- ---- a text and the buffer that it is put into
+
+-- What a text is once more is put behind it: the same borrow, with the bytes there as far as there is room, and so much longer.
+abbrev pub followed : Text → List ℕ → Text
+followed w t = record { out = at_last w.out (sets w.out.now w.length t); length = w.length + length t }
+
+put_followed : (w : Text) (t : List ℕ) → TextPut w.out.now w.length t (followed w t).out.now (followed w t).length
+put_followed w t = record { bytes = refl; place = refl }
+
+pub followed_none : (w : Text) → w ≡ followed w []
+followed_none w = λ i. record { out = w.out; length = (put_none w.out.now w.length).place i }
+
+pub followed_then : (s t : List ℕ) (w : Text) {m n : Text} → m ≡ followed w s → n ≡ followed m t → n ≡ followed w (s ++ t)
+followed_then s t w e f =
+    let both = put_then (put_followed w s) (put_followed (followed w s) t) in
+    f ∙ ap (λ (k : Text). followed k t) e ∙ (λ i. record { out = at_last w.out (both.bytes i); length = both.place i })
+
+-- Once a text that was begun in a buffer is no longer needed, the buffer holds what was put.
+pub followed_whole : (t : List ℕ) {b : MutBor (List ℕ)} {m : Text} {last : List ℕ} → m ≡ followed (record { out = b; length = 0 }) t → (b.ghost_name ≡ m.out.ghost_name → last ≡ m.out.now) → TextPut b.now 0 t last m.length
+followed_whole t e follows =
+    record {
+      bytes = follows (sym (ap (λ (k : Text). k.out.ghost_name) e)) ∙ ap (λ (k : Text). k.out.now) e;
+      place = ap (λ (k : Text). k.length) e;
+    }
 
 -- A line that has room in the line buffer is found whole in it.
 pub set_whole : (buffer text b : List ℕ) (at : ℕ) → length text ≤ length buffer → line b at ≡ put text (line buffer 0) → take at b ≡ text

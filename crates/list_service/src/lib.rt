@@ -1,14 +1,14 @@
 // List: writes the whole listing of a stored mesh.
 #![tactic(auto)]
 
-ghost use Rattle.std.specs.Prelude.{◌≡◌, cond, [], ℕ, ◌+◌, ◌≤◌, ◌<◌, ◌^◌, length, eqb};
+ghost use Rattle.std.specs.Prelude.{◌≡◌, cond, ℕ, ◌+◌, ◌≤◌, ◌<◌, ◌^◌, length, eqb};
 ghost use Rattle.stored.specs.Layout.{stored1, header_of};
 ghost use Rattle.stored_entries.specs.Mesh.{record_read};
 ghost use Rattle.mesh_tables.specs.Tables.{tables_of};
 ghost use Rattle.check_refusals.specs.Check.{check_of};
 ghost use Rattle.list_lines.specs.Lines.{line_room, refused_line, heading_line, leaf_line};
 ghost use Rattle.list_service.specs.Listing.{leaf_lines, judged_lines, text_of, ListOutcomeIs};
-ghost use Rattle.list_service.specs.Putting.{TextPut, leaf_text, ListingPut};
+ghost use Rattle.list_service.specs.Putting.{leaf_text, ListingPut, followed};
 
 use check_refusals::Report;
 use piece::Piece;
@@ -26,105 +26,115 @@ pub struct Listed {
 // So many bytes hold any listing: a line for each record that there may be, and the heading.
 pub const LARGEST: usize = list_lines::LINE * (stored::RECORDS + 1);
 
-// A line behind those that are put already, as far as there is room. The place behind it is handed back, also where it is beyond the end.
-fn put_line(out: &mut [u8], at: usize, line: &[u8]) -> usize
-    requires { at + length line.now < 2 ^ 64 }
-    ensures { TextPut out.old at line.now out.new result }
-{
-    slices_written::put(out, at, line);
-    at + line.len()
+// The text so far: its lines are put into a buffer one behind the other, as far as there is room. Its length counts on, also beyond the buffer's end.
+#[derive(Drop)]
+struct Text<'a> {
+    out: &'a mut [u8],
+    length: usize,
 }
 
-fn put_refused(out: &mut [u8], number: u64) -> usize
-    ensures { TextPut out.old 0 (refused_line number) out.new result }
-{
-    let mut line = [0u8; list_lines::LINE];
-    let length = list_lines::set_refused(&mut line, number);
-    put_line(out, 0, slices::part(&line, 0, length))
-}
-
-fn put_heading(out: &mut [u8], h: Header, report: Report) -> usize
-    requires { length (heading_line h report) ≤ line_room }
-    ensures { TextPut out.old 0 (heading_line h report) out.new result }
-{
-    let mut line = [0u8; list_lines::LINE];
-    let length = list_lines::set_heading(&mut line, h, report);
-    put_line(out, 0, slices::part(&line, 0, length))
-}
-
-fn put_leaf(out: &mut [u8], at: usize, n: usize, p: Piece) -> usize
-    requires { (length (leaf_line n p) ≤ line_room) × (at + line_room < 2 ^ 64) }
-    ensures { TextPut out.old at (leaf_line n p) out.new result }
-{
-    let mut line = [0u8; list_lines::LINE];
-    let length = list_lines::set_leaf(&mut line, n, p);
-    put_line(out, at, slices::part(&line, 0, length))
-}
-
-// Record n's line, if it is a leaf.
-fn put_record(out: &mut [u8], at: usize, mesh: &Mesh, n: usize) -> usize
-    requires fits { length (leaf_line n (record_read mesh.now n).piece) ≤ line_room }
-    requires room { at + line_room < 2 ^ 64 }
-    ensures { TextPut out.old at (leaf_text (record_read mesh.now n) n) out.new result }
-{
-    if !mesh_tables::is_leaf(mesh, n) {
-        return at;
+impl<'a> Text<'a> {
+    fn put_line(&mut self, line: &[u8])
+        requires { self.old.length + length line.now < 2 ^ 64 }
+        ensures { self.new ≡ followed self.old line.now }
+    {
+        slices_written::put(&mut *self.out, self.length, line);
+        self.length += line.len();
     }
-    put_leaf(out, at, n, mesh.record(n).piece)
-}
 
-// "then each leaf in rising record number"
-fn put_leaves(out: &mut [u8], at: usize, mesh: &[u8], h: Header) -> usize
-    requires { (at ≤ line_room) × (h ≡ header_of (stored1 mesh.now)) }
-    ensures { TextPut out.old at (text_of (leaf_lines (tables_of (stored1 mesh.now)) h.records)) out.new result }
-{
-    let read = Mesh {
-        header: h,
-        layout: stored::layout_of(stored::kind_1(), h),
-        base: mesh,
-        grown: &mesh[..0],
-    };
-    let count = h.records as usize;
-    let mut next = at;
-    for n in 0..count {
-        next = put_record(out, next, &read, n);
+    fn put_refused(&mut self, number: u64)
+        requires { self.old.length + line_room < 2 ^ 64 }
+        ensures { self.new ≡ followed self.old (refused_line number) }
+    {
+        let mut line = [0u8; list_lines::LINE];
+        let length = list_lines::set_refused(&mut line, number);
+        self.put_line(slices::part(&line, 0, length));
     }
-    next
-}
 
-// "Refused: one line"; "else one heading line [..], then each leaf".
-fn put_judged(out: &mut [u8], mesh: &[u8], report: Report) -> usize
-    requires { report ≡ check_of (stored1 mesh.now) }
-    ensures { TextPut out.old 0 (text_of (judged_lines (tables_of (stored1 mesh.now)) report)) out.new result }
-{
-    if report.number != 0 {
-        return put_refused(out, report.number);
+    fn put_heading(&mut self, h: Header, report: Report)
+        requires fits { length (heading_line h report) ≤ line_room }
+        requires room { self.old.length + line_room < 2 ^ 64 }
+        ensures { self.new ≡ followed self.old (heading_line h report) }
+    {
+        let mut line = [0u8; list_lines::LINE];
+        let length = list_lines::set_heading(&mut line, h, report);
+        self.put_line(slices::part(&line, 0, length));
     }
-    let h = stored_headers::header_from(stored::version_1(), mesh);
-    let at = put_heading(out, h, report);
-    put_leaves(out, at, mesh, h)
+
+    fn put_leaf(&mut self, n: usize, p: Piece)
+        requires fits { length (leaf_line n p) ≤ line_room }
+        requires room { self.old.length + line_room < 2 ^ 64 }
+        ensures { self.new ≡ followed self.old (leaf_line n p) }
+    {
+        let mut line = [0u8; list_lines::LINE];
+        let length = list_lines::set_leaf(&mut line, n, p);
+        self.put_line(slices::part(&line, 0, length));
+    }
+
+    // Record n's line, if it is a leaf.
+    fn put_record(&mut self, mesh: &Mesh, n: usize)
+        requires fits { length (leaf_line n (record_read mesh.now n).piece) ≤ line_room }
+        requires room { self.old.length + line_room < 2 ^ 64 }
+        ensures { self.new ≡ followed self.old (leaf_text (record_read mesh.now n) n) }
+    {
+        if mesh_tables::is_leaf(mesh, n) {
+            self.put_leaf(n, mesh.record(n).piece);
+        }
+    }
+
+    // "then each leaf in rising record number"
+    fn put_leaves(&mut self, mesh: &[u8], h: Header)
+        requires { (self.old.length ≤ line_room) × (h ≡ header_of (stored1 mesh.now)) }
+        ensures { self.new ≡ followed self.old (text_of (leaf_lines (tables_of (stored1 mesh.now)) h.records)) }
+    {
+        let read = Mesh {
+            header: h,
+            layout: stored::layout_of(stored::kind_1(), h),
+            base: mesh,
+            grown: &mesh[..0],
+        };
+        let count = h.records as usize;
+        for n in 0..count {
+            self.put_record(&read, n);
+        }
+    }
+
+    // "Refused: one line"; "else one heading line [..], then each leaf".
+    fn put_judged(&mut self, mesh: &[u8], report: Report)
+        requires { (self.old.length ≡ 0) × (report ≡ check_of (stored1 mesh.now)) }
+        ensures { self.new ≡ followed self.old (text_of (judged_lines (tables_of (stored1 mesh.now)) report)) }
+    {
+        // Kept: C's struct holds the number.
+        if report.number != 0 {
+            self.put_refused(report.number);
+        } else {
+            let h = stored_headers::header_from(stored::version_1(), mesh);
+            self.put_heading(h, report);
+            self.put_leaves(mesh, h);
+        }
+    }
 }
 
 // The mesh's own number, and how long the whole listing is; it is put as far as there is room.
 fn put_listing(out: &mut [u8], mesh: &[u8]) -> Listed
     ensures { ListingPut mesh.now out.old out.new result }
 {
-    if stored::LARGEST < mesh.len() {
-        let length = put_refused(out, 1);
-        return Listed {
-            number: 1,
-            length: length as u64,
-        };
-    }
-    let report = check_service::check(mesh);
-    let length = put_judged(out, mesh, report);
+    let mut text = Text { out, length: 0 };
+    let number = if stored::LARGEST < mesh.len() {
+        text.put_refused(1);
+        1
+    } else {
+        let report = check_service::check(mesh);
+        text.put_judged(mesh, report);
+        report.number
+    };
     Listed {
-        number: report.number,
-        length: length as u64,
+        number,
+        length: text.length as u64,
     }
 }
 
-// 20: "the output buffer is shorter than the result"
+// 20: "the output buffer is shorter than the result". Kept: C's struct holds the number.
 fn too_short(number: u64) -> u64
     ensures { result ≡ cond {A = ℕ} (eqb number 0) 20 number }
 {

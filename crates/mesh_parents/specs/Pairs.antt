@@ -2,6 +2,8 @@
 use Rattle.std.specs.Prelude.{◌≡◌, Bool, true, cond, ◌&&◌, List, ℕ, suc, ◌+◌, ◌*◌, ◌≤◌, ◌<◌, length, get_or, replicate, eqb, leb, ltb}
 use Rattle.std.proofs.Common.{ap, ◌∙◌, eqb-true, leb-true, lt-ltb, le-ltb}
 use Rattle.std.proofs.lemmas.List.{length-replicate}
+use Rattle.std.proofs.Math.Nat.{ℕ_set}
+use Rattle.std.specs.Coded.{Π_prop, le_prop}
 use Rattle.laws.specs.Below.{any_below, any_same, and_left, and_right}
 use Rattle.laws.specs.Links.{greatest, key_among, key_within, Roomy, Chain, Links, links_of, zeros_at, pushed, linked_below, linked_none, linked_suc, linked_heads_long, linked_nexts_long, chain_same, chain_linked, chain_any, chain_first, any_gap, any_along, first_along}
 use Rattle.piece.specs.declared.Ends.{Ends}
@@ -107,6 +109,16 @@ pub record Linked (m : Tables) (heads nexts : List ℕ) : Type 0 where
   pub chain : Chain (key_of (length heads) m) (all_vertices m) heads nexts
   pub keys : 0 < length heads
 
+-- Any two proofs of it are equal.
+pub Linked_prop : (m : Tables) (heads nexts : List ℕ) → IsProp (Linked m heads nexts)
+Linked_prop m heads nexts a b i = record {
+  chain = record {
+    first = Π_prop (λ k. Π_prop (λ l. ℕ_set _ _)) a.chain.first b.chain.first i;
+    next = Π_prop (λ v. Π_prop (λ l. Π_prop (λ w. ℕ_set _ _))) a.chain.next b.chain.next i;
+  };
+  keys = le_prop a.keys b.keys i;
+}
+
 -- Links of no vertex, in lists of this length.
 abbrev pub cleared : List ℕ → List ℕ → Links
 cleared heads nexts = links_of (replicate (length heads) 0) nexts
@@ -122,6 +134,10 @@ all_linked m heads₀ nexts₀ room heads nexts h n =
       chain = rw (long, h, n) (pairs_chain m start (all_vertices m) (zeros_at (length heads₀)) room.places room.fits);
       keys = rw (long, as_many) room.keys;
     }
+
+-- The same of the two lists as one.
+pub links_linked : (m : Tables) (heads₀ nexts₀ : List ℕ) → Roomy heads₀ nexts₀ (all_vertices m) → (links : Links) → links ≡ pair_links m (cleared heads₀ nexts₀) (all_vertices m) → Linked m links.heads links.nexts
+links_linked m heads₀ nexts₀ room links is = all_linked m heads₀ nexts₀ room _ _ (ap (λ (l : Links). l.heads) is) (ap (λ (l : Links). l.nexts) is)
 
 -- The vertex with these parents.
 pub vertex_with_is : (m : Tables) (heads nexts : List ℕ) → Linked m heads nexts → (ends : Ends) →

@@ -5,8 +5,8 @@
 ghost use Rattle.std.specs.Prelude.{◌≡◌, cond, ◌&&◌, ltb, length, get_or};
 ghost use Rattle.laws.specs.Links.{links_of, pushed, any_along, first_along};
 ghost use Rattle.chains.specs.Held.{links_in, SameSlices};
-ghost use Rattle.mesh_tables.specs.Tables.{tables_read, has_parents};
-ghost use Rattle.mesh_parents.specs.Pairs.{pair_sum, pair_key, key_of, pair_links, cleared};
+ghost use Rattle.mesh_tables.specs.Tables.{tables_read, has_parents, vertex_with};
+ghost use Rattle.mesh_parents.specs.Pairs.{pair_sum, pair_key, key_of, pair_links, cleared, Linked, Linked_prop};
 
 use chains::Links;
 use piece::Ends;
@@ -40,7 +40,7 @@ pub fn pair_key(keys: usize, ends: Ends) -> usize
     chains::key(pair_sum(ends), keys)
 }
 
-// The key of vertex v: past the heads if it is a base vertex.
+// The key of vertex v: past the heads if it is a base vertex. Kept a number and no Option, as its definition `key_of` is.
 fn vertex_key(mesh: &Mesh, keys: usize, v: usize) -> usize
     ensures { result ≡ key_of keys (tables_read mesh.now) v }
 {
@@ -103,7 +103,8 @@ pub fn head_of(links: &Links, ends: Ends) -> usize
     links.first(pair_sum(ends))
 }
 
-// The lowest vertex along the links with these parents; the count of vertices where there is none.
+// The lowest vertex along the links with these parents; the count of vertices where there is none: kept a number and no Option, as the definition
+// `vertex_with` is, since a vertex that a cut appends gets this number.
 pub fn first_with(mesh: &Mesh, links: &Links, ends: Ends) -> usize
     ensures { result ≡ first_along links.now.nexts.now (has_parents (tables_read mesh.now) ends) (get_or links.now.heads.now (pair_key (length links.now.heads.now) ends) 0) mesh.now.header.vertices }
 {
@@ -112,4 +113,21 @@ pub fn first_with(mesh: &Mesh, links: &Links, ends: Ends) -> usize
         mesh.header.vertices as usize,
         |u| has_parents(mesh, ends, u),
     )
+}
+
+// A mesh with its made vertices linked by their parents.
+#[derive(Clone, Copy)]
+pub struct LinkedMesh<'a> {
+    pub mesh: &'a Mesh<'a>,
+    pub links: &'a Links<'a, 'a>,
+    pub ghost linked: { Linked (tables_read mesh.now) links.now.heads.now links.now.nexts.now } by { Linked_prop (tables_read mesh.now) links.now.heads.now links.now.nexts.now },
+}
+
+impl<'a> LinkedMesh<'a> {
+    // The vertex with these parents; the count of vertices where there is none.
+    pub fn vertex_with(&self, ends: Ends) -> usize
+        ensures { result ≡ vertex_with (tables_read self.now.mesh.now) ends }
+    {
+        first_with(self.mesh, self.links, ends)
+    }
 }

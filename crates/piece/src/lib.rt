@@ -13,6 +13,7 @@ pub struct Piece {
     // Vertex numbers in slots 0 to 3.
     pub corners: [u32; 4],
     // The refinement edge's code.
+    // Kept numbers, as the flag below: a record's bytes, of which any may be stored, and which the demands' definitions read.
     pub edge: u8,
     // The codes of the marked edges of faces 0 to 3.
     pub marks: [u8; 4],
@@ -56,7 +57,7 @@ pub fn corner_at(corners: [u32; 4], k: u8) -> u32
     if k < 4 { corners[k as usize] } else { 0 }
 }
 
-// Of edge e, the slot of the end of lower vertex number.
+// Of edge e, the slot of the end of lower vertex number. Kept beside `higher_end`: the documents name both, and a test for which is no plainer.
 pub fn lower_end(p: Piece, e: u8) -> u8
     ensures { result ≡ lower_end p e }
 {

@@ -44,6 +44,7 @@ pub fn other_end(e: u8, k: u8) -> u8
 }
 
 // The code of the edge between two slots, and 6 where there is none.
+// Kept a number: 6, and 4 for no slot below, are what the definitions say, which the theorems on all shapes compute.
 pub fn edge_between(j: u8, k: u8) -> u8
     ensures { result ≡ edge_between j k }
 {

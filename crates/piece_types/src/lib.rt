@@ -34,7 +34,7 @@ fn is_type_p(p: Piece) -> bool
     )
 }
 
-// Whether the piece is of type P_f.
+// Whether the piece is of type P_f. Kept beside `is_unset_p`: they are document 002's two types, and share `is_type_p`.
 pub fn is_set_p(p: Piece) -> bool
     ensures { result ≡ set_p (shape_of p) }
 {

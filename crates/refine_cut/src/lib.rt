@@ -27,6 +27,7 @@ fn midpoint(mesh: &Mesh, ends: Ends) -> Vertex
     }
 }
 
+// Kept two slices: a struct that holds both for writing would have each function promise as well that it keeps the same two and the layout.
 fn put_midpoint(
     h: Header,
     l: Layout,

@@ -17,6 +17,7 @@ ghost use Rattle.refine_pass.specs.Chosen.{table_of, Chosen};
 ghost use Rattle.refine_pass.specs.Linked.{Linking, AtWork};
 
 use chains::Links;
+use mesh_parents::LinkedMesh;
 use stored::{Format, Header, Kind, Layout, Limits};
 use stored_entries::Mesh;
 
@@ -29,6 +30,8 @@ pub fn exceeds(most: Limits, h: Header) -> bool
 }
 
 // Record n is cut at the vertex with its refinement edge's ends for parents, which is looked for along the links.
+// Kept: what it asks of the links stands here and not in a `LinkedMesh`, which holds slices that are read, and these are written.
+// Kept two slices: a struct that holds both for writing would have each function promise as well that it keeps the same two and the layout.
 fn cut(h: Header, l: Layout, base: &mut [u8], grown: &mut [u8], links: &Links, n: usize) -> Header
     requires { Linked (tables h l base.old grown.old) links.now.heads.now links.now.nexts.now }
     ensures { slices result base.new grown.new ≡ cut_put l (slices h base.old grown.old) n }
@@ -98,15 +101,14 @@ pub fn choose_named(format: Format, chosen: &mut [u16], selection: &[u8], count:
 }
 
 // Every leaf that has a hanging edge is chosen in the table, and no other record; whether there is one.
-fn choose_hanging(mesh: &Mesh, links: &Links, chosen: &mut [u16]) -> bool
-    requires linked { Linked (tables_read mesh.now) links.now.heads.now links.now.nexts.now }
-    requires records_in_bounds { mesh.now.header.records ≤ length chosen.old }
-    ensures { Chosen (leaf_hangs (tables_read mesh.now)) mesh.now.header.records chosen.new result }
+fn choose_hanging(linked: &LinkedMesh, chosen: &mut [u16]) -> bool
+    requires { linked.now.mesh.now.header.records ≤ length chosen.old }
+    ensures { Chosen (leaf_hangs (tables_read linked.now.mesh.now)) linked.now.mesh.now.header.records chosen.new result }
 {
-    let records = mesh.header.records as usize;
+    let records = linked.mesh.header.records as usize;
     let mut some = false;
     for n in 0..records {
-        let hangs = mesh_hanging::leaf_hangs(mesh, links, n);
+        let hangs = mesh_hanging::leaf_hangs(linked.mesh, linked.links, n);
         chosen[n] = u16::from(hangs);
         some |= hangs;
     }
@@ -169,7 +171,11 @@ fn close(
             base: &*base,
             grown: &*grown,
         };
-        if !choose_hanging(&mesh, links, chosen) {
+        let linked = LinkedMesh {
+            mesh: &mesh,
+            links: &*links,
+        };
+        if !choose_hanging(&linked, chosen) {
             return with;
         }
         with = pass(most, with, l, base, grown, links, chosen);

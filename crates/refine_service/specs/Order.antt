@@ -9,8 +9,8 @@ use Rattle.mesh_tables.specs.Tables.{Tables}
 use Rattle.check_refusals.specs.declared.Report.{Report}
 use Rattle.check_refusals.specs.declared.Refusal.{Refusal}
 use Rattle.check_refusals.specs.Check.{check_number}
-use Rattle.check_refusals.specs.Outcomes.{outcome_number, outcome_report, report_number}
-use Rattle.check_refusals.specs.Rows.{report_number as number_reported}
+use Rattle.check_refusals.specs.Outcomes.{outcome_number, outcome_report, outcome_reported}
+use Rattle.check_refusals.specs.Rows.{report_number}
 use Rattle.check_service.specs.Verdict.{VerdictIs}
 use Rattle.refine_selection.specs.Selected.{selection_rows, names_cut, names_last, round_row}
 use Rattle.refine_service.specs.Refine.{refine_selection_rows}
@@ -35,4 +35,4 @@ module _ (m : Tables) (t : StoredSelection) where
 
 -- The number of the verdict is check's.
 pub verdict_number : (s : Stored) (o : Result Unit Refusal) → VerdictIs s (outcome_report o) → outcome_number o ≡ check_number s
-verdict_number s o is = sym (report_number o) ∙ ap (λ (r : Report). r.number) is ∙ number_reported s
+verdict_number s o is = sym (outcome_reported o) ∙ ap (λ (r : Report). r.number) is ∙ report_number s

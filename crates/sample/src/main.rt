@@ -2,39 +2,23 @@
 // buffer is as long as the result.
 #![tactic(auto)]
 
+use check_refusals::Refusal;
 use std::io;
 use stored_entries::Mesh;
-
-fn print_figure(rt: &impl Print, name: &[u8], figure: u64) -> io::Result<()> {
-    rt.write_all(name)?;
-    rt.print(figure)
-}
-
-fn print_corners(rt: &impl Print, corners: [u32; 4]) -> io::Result<()> {
-    print_figure(rt, b" corners ", corners[0] as u64)?;
-    print_figure(rt, b" ", corners[1] as u64)?;
-    print_figure(rt, b" ", corners[2] as u64)?;
-    print_figure(rt, b" ", corners[3] as u64)
-}
-
-fn print_marks(rt: &impl Print, edge: u8, marks: [u8; 4]) -> io::Result<()> {
-    print_figure(rt, b" edge ", edge as u64)?;
-    print_figure(rt, b" marks ", marks[0] as u64)?;
-    print_figure(rt, b" ", marks[1] as u64)?;
-    print_figure(rt, b" ", marks[2] as u64)?;
-    print_figure(rt, b" ", marks[3] as u64)
-}
 
 fn print_record(rt: &impl Print, mesh: &Mesh, n: usize) -> io::Result<()> {
     let p = mesh.record(n).piece;
     let ends = mesh_tables::refinement_ends(mesh, n);
-    print_figure(rt, b"  record ", n as u64)?;
-    print_corners(rt, p.corners)?;
-    print_marks(rt, p.edge, p.marks)?;
-    print_figure(rt, b" cut next at ", ends.lower as u64)?;
-    print_figure(rt, b"-", ends.higher as u64)?;
-    print_figure(rt, b" sixfold ", check_figures::sixfold_at(mesh, n))?;
-    rt.write_all(b"\n")
+    let [a, b, c, d] = p.corners;
+    let [one, two, three, four] = p.marks;
+    let edge = p.edge;
+    let lower = ends.lower;
+    let higher = ends.higher;
+    let sixfold = check_figures::sixfold_at(mesh, n);
+    print!(rt;
+        "  record {n} corners {a} {b} {c} {d} edge {edge} marks {one} {two} {three} {four}"
+    )?;
+    println!(rt; " cut next at {lower}-{higher} sixfold {sixfold}")
 }
 
 fn print_leaves(rt: &impl Print, mesh: &[u8]) -> io::Result<()> {
@@ -55,46 +39,49 @@ fn print_leaves(rt: &impl Print, mesh: &[u8]) -> io::Result<()> {
 }
 
 // What build or refine gave, and what check says of the output.
-fn shown(rt: &impl Print, service: &[u8], number: u32, out: &[u8]) -> io::Result<()> {
-    print_figure(rt, service, number as u64)?;
-    if number != 0 {
-        return rt.write_all(b"\n");
+fn shown(
+    rt: &impl Print,
+    service: &str,
+    outcome: Result<(), Refusal>,
+    out: &[u8],
+) -> io::Result<()> {
+    print!(rt; ": {service} {}", check_refusals::outcome_number(outcome))?;
+    if outcome.is_err() {
+        return println!(rt; "");
     }
     let h = stored_headers::header_from(stored::version_1(), out);
-    print_figure(rt, b", round ", h.round as u64)?;
-    print_figure(rt, b", vertices ", h.vertices as u64)?;
-    print_figure(rt, b", records ", h.records as u64)?;
+    print!(rt;
+        ", round {}, vertices {}, records {}",
+        h.round, h.vertices, h.records
+    )?;
     let report = check_service::check(out);
-    print_figure(rt, b", check ", report.number)?;
-    print_figure(rt, b", leaves ", report.leaves)?;
-    print_figure(rt, b", deepest ", report.deepest)?;
-    print_figure(rt, b", sixfold ", report.sixfold)?;
-    rt.write_all(b"\n")?;
+    print!(rt; ", check {}, leaves {}", report.number, report.leaves)?;
+    println!(rt; ", deepest {}, sixfold {}", report.deepest, report.sixfold)?;
     print_leaves(rt, out)
 }
 
 fn built(
     rt: &impl Print,
-    row: &[u8],
+    row: &str,
     coordinates: &[i16],
     corners: &[u16],
     out: &mut [u8],
 ) -> io::Result<()> {
-    rt.write_all(row)?;
-    let number = check_refusals::outcome_number(build_service::build(7, coordinates, corners, out));
-    shown(rt, b": build ", number, out)
+    print!(rt; "{row}")?;
+    let outcome = build_service::build(7, coordinates, corners, out);
+    shown(rt, "build", outcome, out)
 }
 
-fn refined<'a>(
+fn refined(
     rt: &impl Print,
-    row: &[u8],
-    mesh: &'a [u8],
-    selection: &'a [u8],
+    row: &str,
+    mesh: &[u8],
+    selection: &[u8],
     out: &mut [u8],
 ) -> io::Result<()> {
-    rt.write_all(row)?;
-    let number = check_refusals::outcome_number(refine_service::refine(mesh, selection, out));
-    shown(rt, b": refine ", number, out)
+    print!(rt; "{row}")?;
+    let outcome = refine_service::refine(mesh, selection, out);
+    shown(rt, "refine", outcome, out)
 }
 
 // From K cut into four, with its seven records.
@@ -103,7 +90,7 @@ fn then(rt: &impl Print, quarters: &[u8]) -> io::Result<()> {
     let select_4 = b"TMS\x01\0\x07\0\0\0\x02\0\x01\0\x04\0";
     refined(
         rt,
-        b"From there select 4 alone",
+        "From there select 4 alone",
         quarters,
         select_4,
         &mut some,
@@ -112,7 +99,7 @@ fn then(rt: &impl Print, quarters: &[u8]) -> io::Result<()> {
     let select_3_to_6 = b"TMS\x01\0\x07\0\0\0\x02\0\x04\0\x03\0\x04\0\x05\0\x06\0";
     refined(
         rt,
-        b"Select 3 to 6 instead",
+        "Select 3 to 6 instead",
         quarters,
         select_3_to_6,
         &mut eighths,
@@ -125,32 +112,32 @@ fn expired(rt: &impl Print, halves: &[u8]) -> io::Result<()> {
     let round_0 = b"TMS\x01\0\x07\0\0\0\0\0\x01\0\x01\0";
     refined(
         rt,
-        b"Selection of round 0 on a mesh of round 1",
+        "Selection of round 0 on a mesh of round 1",
         halves,
         round_0,
         &mut out,
     )?;
     let job_8 = b"TMS\x01\0\x08\0\0\0\0\0\x01\0\x01\0";
-    refined(rt, b"With the job wrong too", halves, job_8, &mut out)
+    refined(rt, "With the job wrong too", halves, job_8, &mut out)
 }
 
 fn k_rows(rt: &impl Print) -> io::Result<()> {
     let mut k = [0u8; 77];
     let coordinates: [i16; 12] = [0, 0, 0, 64, 0, 0, 64, 64, 0, 64, 64, 64];
     let corners: [u16; 4] = [0, 1, 2, 3];
-    built(rt, b"K", &coordinates, &corners, &mut k)?;
+    built(rt, "K", &coordinates, &corners, &mut k)?;
 
     let select_0 = b"TMS\x01\0\x07\0\0\0\0\0\x01\0\0\0";
     let mut halves = [0u8; 121];
-    refined(rt, b"K, select 0", &k, select_0, &mut halves)?;
+    refined(rt, "K, select 0", &k, select_0, &mut halves)?;
     let mut short = [0u8; 120];
-    refined(rt, b"An output buffer of 120", &k, select_0, &mut short)?;
+    refined(rt, "An output buffer of 120", &k, select_0, &mut short)?;
 
     let select_1_and_2 = b"TMS\x01\0\x07\0\0\0\x01\0\x02\0\x01\0\x02\0";
     let mut quarters = [0u8; 209];
     refined(
         rt,
-        b"Then select 1 and 2",
+        "Then select 1 and 2",
         &halves,
         select_1_and_2,
         &mut quarters,
@@ -159,7 +146,7 @@ fn k_rows(rt: &impl Print) -> io::Result<()> {
 
     let select_none = b"TMS\x01\0\x07\0\0\0\0\0\0\0";
     let mut again = [0u8; 77];
-    refined(rt, b"Empty selection on K", &k, select_none, &mut again)?;
+    refined(rt, "Empty selection on K", &k, select_none, &mut again)?;
     expired(rt, &halves)
 }
 
@@ -175,14 +162,14 @@ fn cube_rows(rt: &impl Print) -> io::Result<()> {
         0, 1, 3, 7, 0, 1, 5, 7, 0, 2, 3, 7, 0, 2, 6, 7, 0, 4, 5, 7, 0, 4, 6, 7,
     ];
     let mut cube = [0u8; 202];
-    built(rt, b"The cube", &coordinates, &corners, &mut cube)?;
+    built(rt, "The cube", &coordinates, &corners, &mut cube)?;
     let select_0 = b"TMS\x01\0\x07\0\0\0\0\0\x01\0\0\0";
     let mut out = [0u8; 416];
-    refined(rt, b"Select one", &cube, select_0, &mut out)
+    refined(rt, "Select one", &cube, select_0, &mut out)
 }
 
 // A piece whose first vertex has that coordinate.
-fn coordinate_row(rt: &impl Print, row: &[u8], x: i16) -> io::Result<()> {
+fn coordinate_row(rt: &impl Print, row: &str, x: i16) -> io::Result<()> {
     let coordinates: [i16; 12] = [x, 0, 0, 64, 0, 0, 64, 64, 0, 64, 64, 64];
     let corners: [u16; 4] = [0, 1, 2, 3];
     let mut out = [0u8; 77];
@@ -192,7 +179,7 @@ fn coordinate_row(rt: &impl Print, row: &[u8], x: i16) -> io::Result<()> {
 fn main(rt: HostRuntime) -> io::Result<()> {
     k_rows(&rt)?;
     cube_rows(&rt)?;
-    coordinate_row(&rt, b"Base coordinate 32,736", 32736)?;
-    coordinate_row(&rt, b"Base coordinate 16", 16)?;
-    coordinate_row(&rt, b"Base coordinate -32,768", -32768)
+    coordinate_row(&rt, "Base coordinate 32,736", 32736)?;
+    coordinate_row(&rt, "Base coordinate 16", 16)?;
+    coordinate_row(&rt, "Base coordinate -32,768", -32768)
 }

@@ -1,4 +1,5 @@
 // The C functions of libstation.a, as docs/tmb.h declares them: each is one call of the function of that name in `station`, with its clauses.
+// Kept beside `station`: C's archive is a crate of its own, and exports what it defines.
 #![tactic(auto)]
 
 ghost use Rattle.std.specs.Prelude.{length};

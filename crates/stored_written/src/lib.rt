@@ -28,6 +28,7 @@ fn put_from(s: &mut [u8], from: usize, at: usize, bytes: &[u8])
 }
 
 // Entry i of a table, in the slice that holds it.
+// Kept two slices: a struct that holds both for writing would have each function promise as well that it keeps the same two and the layout.
 fn put_held(t: Table, base: &mut [u8], grown: &mut [u8], i: usize, bytes: &[u8])
     ensures base_after { base.new ≡ base_into t base.old i bytes.now }
     ensures grown_after { grown.new ≡ grown_into t grown.old i bytes.now }

@@ -9,7 +9,6 @@ ghost use Rattle.std.specs.Prelude.{◌≡◌, ◌≤◌, length};
 ghost use Rattle.laws.specs.Below.{count_below};
 ghost use Rattle.laws.specs.Counts.{counts_below, marked};
 ghost use Rattle.mesh_tables.specs.Tables.{tables_read, tables};
-ghost use Rattle.mesh_parents.specs.Pairs.{Linked};
 ghost use Rattle.takeback_remains.specs.Remains.{cut_vertex, leaf_children, freed, vertex_remains, header_again};
 ghost use Rattle.takeback_remains.specs.Numbers.{numbers_of, new_in};
 ghost use Rattle.takeback_remains.specs.Held.{remains_by, held_counted, stays_by, kept_counted, kept_in};
@@ -17,6 +16,7 @@ ghost use Rattle.takeback_remains.specs.Left.{left_of, cramped, left_within};
 ghost use Rattle.stored_entries.specs.Mesh.{record_read};
 
 use chains::Links;
+use mesh_parents::LinkedMesh;
 use stored::Header;
 use stored_entries::Mesh;
 
@@ -38,32 +38,30 @@ fn freed(mesh: &Mesh, named: &[u16], n: usize) -> bool
 }
 
 // The vertex that record n is cut at.
-fn cut_vertex(mesh: &Mesh, links: &Links, n: usize) -> usize
-    requires { Linked (tables_read mesh.now) links.now.heads.now links.now.nexts.now }
-    ensures { result ≡ cut_vertex (tables_read mesh.now) n }
+fn cut_vertex(linked: &LinkedMesh, n: usize) -> usize
+    ensures { result ≡ cut_vertex (tables_read linked.now.mesh.now) n }
 {
-    let ends = mesh_tables::refinement_ends(mesh, n);
-    mesh_parents::first_with(mesh, links, ends)
+    let ends = mesh_tables::refinement_ends(linked.mesh, n);
+    linked.vertex_with(ends)
 }
 
 // One more at the vertex that record n is cut at, if it holds it.
 #[tactic(auto, unfolding(crate::specs::Held::held_counted))]
-fn hold(held: &mut [u16], mesh: &Mesh, links: &Links, named: &[u16], n: usize)
-    requires { Linked (tables_read mesh.now) links.now.heads.now links.now.nexts.now }
-    ensures { held.new ≡ held_counted (tables_read mesh.now) (marked named.now) held.old n }
+fn hold(held: &mut [u16], linked: &LinkedMesh, named: &[u16], n: usize)
+    ensures { held.new ≡ held_counted (tables_read linked.now.mesh.now) (marked named.now) held.old n }
 {
-    if !mesh_tables::is_leaf(mesh, n) && !freed(mesh, named, n) {
-        chains::count(held, cut_vertex(mesh, links, n));
+    if !mesh_tables::is_leaf(linked.mesh, n) && !freed(linked.mesh, named, n) {
+        chains::count(held, cut_vertex(linked, n));
     }
 }
 
-fn hold_all(held: &mut [u16], mesh: &Mesh, links: &Links, named: &[u16])
-    requires { Linked (tables_read mesh.now) links.now.heads.now links.now.nexts.now }
-    ensures { held.new ≡ counts_below (held_counted (tables_read mesh.now) (marked named.now)) held.old mesh.now.header.records }
+// Kept beside `keep_all`: each counts by a test of its own, and a closure that counts would have to be told of every count before.
+fn hold_all(held: &mut [u16], linked: &LinkedMesh, named: &[u16])
+    ensures { held.new ≡ counts_below (held_counted (tables_read linked.now.mesh.now) (marked named.now)) held.old linked.now.mesh.now.header.records }
 {
-    let count = mesh.header.records as usize;
+    let count = linked.mesh.header.records as usize;
     for n in 0..count {
-        hold(held, mesh, links, named, n);
+        hold(held, linked, named, n);
     }
 }
 
@@ -74,36 +72,54 @@ pub fn new_number(numbers: &[u32], x: usize) -> u32
     numbers.get(x).copied().unwrap_or(stored::NONE)
 }
 
+// The new numbers of all vertices and of all records.
+#[derive(Clone, Copy)]
+pub struct NewNumbers<'a> {
+    pub vertices: &'a [u32],
+    pub records: &'a [u32],
+}
+
+impl<'a> NewNumbers<'a> {
+    pub fn vertex(&self, v: usize) -> u32
+        ensures { result ≡ new_in self.now.vertices.now v }
+    {
+        new_number(self.vertices, v)
+    }
+
+    pub fn record(&self, n: usize) -> u32
+        ensures { result ≡ new_in self.now.records.now n }
+    {
+        new_number(self.records, n)
+    }
+}
+
 // Whether record n is cut, and the vertex that it is cut at has a new number.
 #[tactic(auto, unfolding(crate::specs::Held::stays_by))]
-fn stays_cut(mesh: &Mesh, links: &Links, vertices: &[u32], n: usize) -> bool
-    requires { Linked (tables_read mesh.now) links.now.heads.now links.now.nexts.now }
-    ensures { result ≡ stays_by (tables_read mesh.now) vertices.now n }
+fn stays_cut(linked: &LinkedMesh, vertices: &[u32], n: usize) -> bool
+    ensures { result ≡ stays_by (tables_read linked.now.mesh.now) vertices.now n }
 {
-    !mesh_tables::is_leaf(mesh, n)
-        && new_number(vertices, cut_vertex(mesh, links, n)) != stored::NONE
+    !mesh_tables::is_leaf(linked.mesh, n)
+        && new_number(vertices, cut_vertex(linked, n)) != stored::NONE
 }
 
 // One more at both children of record n, if it stays cut.
 #[tactic(auto, unfolding(crate::specs::Held::kept_counted))]
-fn keep(kept: &mut [u16], mesh: &Mesh, links: &Links, vertices: &[u32], n: usize)
-    requires { Linked (tables_read mesh.now) links.now.heads.now links.now.nexts.now }
-    ensures { kept.new ≡ kept_counted (tables_read mesh.now) vertices.now kept.old n }
+fn keep(kept: &mut [u16], linked: &LinkedMesh, vertices: &[u32], n: usize)
+    ensures { kept.new ≡ kept_counted (tables_read linked.now.mesh.now) vertices.now kept.old n }
 {
-    if stays_cut(mesh, links, vertices, n) {
-        let first = mesh.first_child(n) as usize;
+    if stays_cut(linked, vertices, n) {
+        let first = linked.mesh.first_child(n) as usize;
         chains::count(kept, first);
         chains::count(kept, first + 1);
     }
 }
 
-fn keep_all(kept: &mut [u16], mesh: &Mesh, links: &Links, vertices: &[u32])
-    requires { Linked (tables_read mesh.now) links.now.heads.now links.now.nexts.now }
-    ensures { kept.new ≡ counts_below (kept_counted (tables_read mesh.now) vertices.now) kept.old mesh.now.header.records }
+fn keep_all(kept: &mut [u16], linked: &LinkedMesh, vertices: &[u32])
+    ensures { kept.new ≡ counts_below (kept_counted (tables_read linked.now.mesh.now) vertices.now) kept.old linked.now.mesh.now.header.records }
 {
-    let count = mesh.header.records as usize;
+    let count = linked.mesh.header.records as usize;
     for n in 0..count {
-        keep(kept, mesh, links, vertices, n);
+        keep(kept, linked, vertices, n);
     }
 }
 
@@ -135,22 +151,20 @@ fn number(numbers: &mut [u32], count: u32, base: u32, counted: &[u16]) -> u32
 fn number_vertices(
     numbers: &mut [u32],
     counts: &mut [u16],
-    mesh: &Mesh,
-    links: &Links,
+    linked: &LinkedMesh,
     named: &[u16],
 ) -> u32
-    requires linked { Linked (tables_read mesh.now) links.now.heads.now links.now.nexts.now }
-    requires vertices_in_bounds { mesh.now.header.vertices ≤ length counts.old }
-    requires vertices_in_bounds_2 { mesh.now.header.vertices ≤ length numbers.old }
-    ensures numbers_after { numbers.new ≡ numbers_of (vertex_remains (tables_read mesh.now) (marked named.now)) (length numbers.old) }
-    ensures value { result ≡ count_below mesh.now.header.vertices (vertex_remains (tables_read mesh.now) (marked named.now)) }
+    requires vertices_in_bounds { linked.now.mesh.now.header.vertices ≤ length counts.old }
+    requires vertices_in_bounds_2 { linked.now.mesh.now.header.vertices ≤ length numbers.old }
+    ensures numbers_after { numbers.new ≡ numbers_of (vertex_remains (tables_read linked.now.mesh.now) (marked named.now)) (length numbers.old) }
+    ensures value { result ≡ count_below linked.now.mesh.now.header.vertices (vertex_remains (tables_read linked.now.mesh.now) (marked named.now)) }
 {
     counts.fill(0);
-    hold_all(counts, mesh, links, named);
+    hold_all(counts, linked, named);
     number(
         numbers,
-        mesh.header.vertices,
-        mesh.header.base_vertices,
+        linked.mesh.header.vertices,
+        linked.mesh.header.base_vertices,
         counts,
     )
 }
@@ -158,21 +172,19 @@ fn number_vertices(
 fn number_records(
     numbers: &mut [u32],
     counts: &mut [u16],
-    mesh: &Mesh,
-    links: &Links,
+    linked: &LinkedMesh,
     vertices: &[u32],
 ) -> u32
-    requires linked { Linked (tables_read mesh.now) links.now.heads.now links.now.nexts.now }
-    requires records_in_bounds { mesh.now.header.records ≤ length numbers.old }
-    ensures numbers_after { numbers.new ≡ numbers_of (remains_by mesh.now.header.records mesh.now.header.base_records (kept_in (tables_read mesh.now) vertices.now (length counts.old))) (length numbers.old) }
-    ensures value { result ≡ count_below mesh.now.header.records (remains_by mesh.now.header.records mesh.now.header.base_records (kept_in (tables_read mesh.now) vertices.now (length counts.old))) }
+    requires { linked.now.mesh.now.header.records ≤ length numbers.old }
+    ensures numbers_after { numbers.new ≡ numbers_of (remains_by linked.now.mesh.now.header.records linked.now.mesh.now.header.base_records (kept_in (tables_read linked.now.mesh.now) vertices.now (length counts.old))) (length numbers.old) }
+    ensures value { result ≡ count_below linked.now.mesh.now.header.records (remains_by linked.now.mesh.now.header.records linked.now.mesh.now.header.base_records (kept_in (tables_read linked.now.mesh.now) vertices.now (length counts.old))) }
 {
     counts.fill(0);
-    keep_all(counts, mesh, links, vertices);
+    keep_all(counts, linked, vertices);
     number(
         numbers,
-        mesh.header.records,
-        mesh.header.base_records,
+        linked.mesh.header.records,
+        linked.mesh.header.base_records,
         counts,
     )
 }
@@ -189,14 +201,14 @@ fn header_again(h: Header, vertices: u32, records: u32) -> Header
 
 // Whether what is lent has no room for the links of all vertices, or no place for some vertex or record.
 #[tactic(auto, unfolding(crate::specs::Left::cramped))]
-fn is_cramped(h: Header, links: &Links, counts: &[u16], vertices: &[u32], records: &[u32]) -> bool
-    ensures { result ≡ cramped h links.now.heads.now links.now.nexts.now counts.now vertices.now records.now }
+fn is_cramped(h: Header, links: &Links, counts: &[u16], numbers: &NewNumbers) -> bool
+    ensures { result ≡ cramped h links.now.heads.now links.now.nexts.now counts.now numbers.now.vertices.now numbers.now.records.now }
 {
     links.is_short(h.vertices as usize)
         || counts.len() < h.vertices as usize
         || counts.len() < h.records as usize
-        || vertices.len() < h.vertices as usize
-        || records.len() < h.records as usize
+        || numbers.vertices.len() < h.vertices as usize
+        || numbers.records.len() < h.records as usize
 }
 
 // The new numbers of all vertices and records, and the header with as many as remain. Links and counts are lent; where what is lent has no room, nothing is
@@ -211,11 +223,20 @@ pub fn remaining(
 ) -> Header
     ensures { left_of result vertices.new records.new ≡ left_within (cramped mesh.now.header links.old.heads.now links.old.nexts.now counts.old vertices.old records.old) (tables_read mesh.now) (marked named.now) (left_of mesh.now.header vertices.old records.old) }
 {
-    if is_cramped(mesh.header, links, counts, vertices, records) {
+    if is_cramped(
+        mesh.header,
+        links,
+        counts,
+        &NewNumbers { vertices, records },
+    ) {
         return mesh.header;
     }
     mesh_parents::link_pairs(mesh, links);
-    let of_vertices = number_vertices(vertices, counts, mesh, links, named);
-    let of_records = number_records(records, counts, mesh, links, vertices);
-    header_again(mesh.header, of_vertices, of_records)
+    let linked = LinkedMesh {
+        mesh,
+        links: &*links,
+    };
+    let of_vertices = number_vertices(vertices, counts, &linked, named);
+    let of_records = number_records(records, counts, &linked, vertices);
+    header_again(linked.mesh.header, of_vertices, of_records)
 }

@@ -14,6 +14,7 @@ use chains::Links;
 use check_refusals::Refusal;
 use stored::Header;
 use stored_entries::Mesh;
+use takeback_remains::NewNumbers;
 
 fn is_uncut(mesh: &Mesh, request: &[u8], i: usize) -> bool
     ensures { result ≡ uncut (record_read mesh.now (named_in (selection_in mesh.now.layout.format request.now) i)) }
@@ -89,7 +90,11 @@ fn store(mesh: &[u8], h: Header, request: &[u8], out: &mut [u8]) -> Result<(), R
         return Err(Refusal::TooShort);
     }
     let next = stored_headers::next_round(with);
-    takeback_closed::put_closed(out, next, &read, &vertices, &records);
+    let numbers = NewNumbers {
+        vertices: &vertices,
+        records: &records,
+    };
+    takeback_closed::put_closed(out, next, &read, &numbers);
     Ok(())
 }
 

@@ -5,4 +5,4 @@ use Rattle.build_service.specs.Storing.{records_put}
 use Rattle.build_service.proofs.put_records.Given as goal
 
 abbrev pub invariant-loop-i : goal.invariant-loop-i
-invariant-loop-i l = (l.base ≡ l.initial.base) × (l.grown ≡ records_put l.initial.grown l.coordinates l.corners l.i)
+invariant-loop-i l = (l.base ≡ l.initial.base) × (l.grown ≡ records_put l.initial.grown l.plain.coordinates.now l.plain.corners.now l.i)

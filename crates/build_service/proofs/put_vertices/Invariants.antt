@@ -5,4 +5,4 @@ use Rattle.build_service.specs.Storing.{vertices_put}
 use Rattle.build_service.proofs.put_vertices.Given as goal
 
 abbrev pub invariant-loop-i : goal.invariant-loop-i
-invariant-loop-i l = (l.base ≡ vertices_put l.initial.base l.coordinates l.i) × (l.grown ≡ l.initial.grown)
+invariant-loop-i l = (l.base ≡ vertices_put l.initial.base l.plain.coordinates.now l.i) × (l.grown ≡ l.initial.grown)

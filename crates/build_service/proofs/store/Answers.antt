@@ -44,8 +44,8 @@ plain_header-h-requires c = c.requires.counts_fit
 pub finish-requires : goal.finish-requires
 finish-requires c =
     let a = c.args in
-    let coordinates = a.coordinates.now in
-    let corners = a.corners.now in
+    let coordinates = a.plain.now.coordinates.now in
+    let corners = a.plain.now.corners.now in
     let right = c.requires.counts_fit in
     let h = c.plain_header-h in
     let first = c.put_vertices.ensures in
@@ -62,8 +62,8 @@ finish-requires c =
 pub returns : goal.returns
 returns c =
     let a = c.args in
-    let coordinates = a.coordinates.now in
-    let corners = a.corners.now in
+    let coordinates = a.plain.now.coordinates.now in
+    let corners = a.plain.now.corners.now in
     let h = c.plain_header-h in
     let first = c.put_vertices.ensures in
     let then = c.put_records.ensures in

@@ -10,4 +10,4 @@ use Rattle.check_children.specs.Midpoints.{midpoint_counted}
 use Rattle.check_children.proofs.any_bad_record.Given as goal
 
 abbrev pub invariant-loop-n : goal.invariant-loop-n
-invariant-loop-n l = (any_below l.n (bad_record_by (tables_read l.mesh) l.children) ≡ false) × (l.midpoints ≡ counts_below (midpoint_counted (tables_read l.mesh)) l.initial.midpoints l.n)
+invariant-loop-n l = (any_below l.n (bad_record_by (tables_read l.linked.mesh.now) l.children) ≡ false) × (l.midpoints ≡ counts_below (midpoint_counted (tables_read l.linked.mesh.now)) l.initial.midpoints l.n)

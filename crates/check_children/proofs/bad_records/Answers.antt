@@ -14,8 +14,8 @@ use Rattle.stored_entries.specs.Mesh.{record_read}
 pub returns : goal.returns
 returns c =
     let a = c.args in
-    let m = tables_read a.mesh.now in
+    let m = tables_read a.linked.now.mesh.now in
     let table : c.count_all_children.new.children ≡ children_in m (length a.children.now) =
     c.count_all_children.ensures
-    ∙ ap (λ (start : List ℕ). counts_below (λ t n. children_counted t (record_read a.mesh.now n)) start a.mesh.now.header.records) (c.fill.ensures.after (λ y e. e)) in
-    record { value = c.any_bad_record.ensures.value ∙ any_bad_record_is m _ (length a.children.now) c.requires.records_in_bounds table; midpoints_after = c.any_bad_record.ensures.midpoints_after }
+    ∙ ap (λ (start : List ℕ). counts_below (λ t n. children_counted t (record_read a.linked.now.mesh.now n)) start a.linked.now.mesh.now.header.records) (c.fill.ensures.after (λ y e. e)) in
+    record { value = c.any_bad_record.ensures.value ∙ any_bad_record_is m _ (length a.children.now) c.requires table; midpoints_after = c.any_bad_record.ensures.midpoints_after }

@@ -11,5 +11,5 @@ use Rattle.check_children.proofs.no_midpoints.Goals as goal
 
 pub returns : goal.returns
 returns c =
-    any_from_yields_List (no_midpoint_by (tables_read c.args.mesh.now) c.args.midpoints.now) _ _ _ c.any.ensures.ran (YieldsList-from_range 0 c.args.mesh.now.header.vertices c.args.mesh.now.header.vertices refl (omega arith)) (λ x b q k. search (rules, tests))
-    ∙ any_of_range c.args.mesh.now.header.vertices _
+    any_from_yields_List (no_midpoint_by (tables_read c.args.linked.now.mesh.now) c.args.midpoints.now) _ _ _ c.any.ensures.ran (YieldsList-from_range 0 c.args.linked.now.mesh.now.header.vertices c.args.linked.now.mesh.now.header.vertices refl (omega arith)) (λ x b q k. search (rules, tests))
+    ∙ any_of_range c.args.linked.now.mesh.now.header.vertices _

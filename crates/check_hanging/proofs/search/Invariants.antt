@@ -8,7 +8,7 @@ use Rattle.std.specs.Prelude.{None}
 use Rattle.check_hanging.proofs.search.Given as goal
 
 abbrev pub invariant-loop-e : goal.invariant-loop-e
-invariant-loop-e l = (l.found ≡ None) × (any_below l.e (hangs_at (tables_read l.mesh) l.n) ≡ false)
+invariant-loop-e l = (l.found ≡ None) × (any_below l.e (hangs_at (tables_read l.linked.mesh.now) l.n) ≡ false)
 
 abbrev pub invariant-search : goal.invariant-search
-invariant-search l = (l.found ≡ None) × (any_below l.n (leaf_hangs (tables_read l.mesh)) ≡ false)
+invariant-search l = (l.found ≡ None) × (any_below l.n (leaf_hangs (tables_read l.linked.mesh.now)) ≡ false)

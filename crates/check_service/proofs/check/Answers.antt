@@ -6,7 +6,7 @@ use Rattle.std.specs.Prelude.{Err}
 use Rattle.check_refusals.specs.declared.Report.{Report}
 use Rattle.stored.specs.Layout.{stored1}
 use Rattle.mesh_tables.specs.Tables.{tables_of}
-use Rattle.check_refusals.specs.Outcomes.{refusal_report, some_number, report_number}
+use Rattle.check_refusals.specs.Outcomes.{refusal_report, some_number, outcome_reported}
 use Rattle.check_service.specs.Verdict.{VerdictIs, refused_whole, accepted_whole, accepted_fits}
 use Rattle.check_service.proofs.check.Goals as goal
 
@@ -16,7 +16,7 @@ returns-in-Err c =
     let number = ap (λ (r : Report). r.number) is in
     c.outcome_report.ensures
     ∙ is
-    ∙ refused_whole (stored1 c.args.mesh.now) (λ e. eqb-false _ _ (some_number c.in-Err.refusal) (sym (report_number (Err c.in-Err.refusal)) ∙ number ∙ e))
+    ∙ refused_whole (stored1 c.args.mesh.now) (λ e. eqb-false _ _ (some_number c.in-Err.refusal) (sym (outcome_reported (Err c.in-Err.refusal)) ∙ number ∙ e))
 
 pub accepted_with-requires : goal.accepted_with-requires
 unfolding tables_of

@@ -11,13 +11,13 @@ use Rattle.refine_pass.proofs.choose_hanging.Goals as goal
 pub loop-n-init : goal.loop-n-init
 loop-n-init c =
     let a = c.args in
-    chosen_none (leaf_hangs (tables_read a.mesh.now)) a.chosen.now
+    chosen_none (leaf_hangs (tables_read a.linked.now.mesh.now)) a.chosen.now
 
 pub loop-n-preserved : goal.loop-n-preserved
 loop-n-preserved c =
     let a = c.args in
     let was = c.loop-n in
-    let m = tables_read a.mesh.now in
-    let linked = c.requires.linked in
-    let hangs = leaf_hangs_along_lem m (all_vertices m) a.links.now.heads.now a.links.now.nexts.now linked.chain linked.keys (le_refl (all_vertices m)) was.n in
-    rw c.from.ensures (chosen_next (leaf_hangs m) was.n was.chosen was.some c.leaf_hangs-hangs.result was.invariant (omega (arith, was.auto.chosen, c.requires.records_in_bounds)) (c.leaf_hangs-hangs.ensures ∙ hangs))
+    let m = tables_read a.linked.now.mesh.now in
+    let linked = a.linked.now.linked in
+    let hangs = leaf_hangs_along_lem m (all_vertices m) a.linked.now.links.now.heads.now a.linked.now.links.now.nexts.now linked.chain linked.keys (le_refl (all_vertices m)) was.n in
+    rw c.from.ensures (chosen_next (leaf_hangs m) was.n was.chosen was.some c.leaf_hangs-hangs.result was.invariant (omega (arith, was.auto.chosen, c.requires)) (c.leaf_hangs-hangs.ensures ∙ hangs))

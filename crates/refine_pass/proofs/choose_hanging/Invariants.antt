@@ -5,4 +5,4 @@ use Rattle.refine_pass.specs.Chosen.{Chosen}
 use Rattle.refine_pass.proofs.choose_hanging.Given as goal
 
 abbrev pub invariant-loop-n : goal.invariant-loop-n
-invariant-loop-n l = Chosen (leaf_hangs (tables_read l.mesh)) l.n l.chosen l.some
+invariant-loop-n l = Chosen (leaf_hangs (tables_read l.linked.mesh.now)) l.n l.chosen l.some

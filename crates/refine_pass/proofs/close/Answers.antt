@@ -17,8 +17,8 @@ returns-then-exceeds c =
     let was = c.loop in
     closing_exceeds a.most a.l (a.most.records - was.counter) (slices was.with was.base was.grown) (sym c.exceeds.ensures ∙ c.if-exceeds.true) ∙ was.invariant.0
 
-pub choose_hanging-requires-clause-records_in_bounds : goal.choose_hanging-requires-clause-records_in_bounds
-choose_hanging-requires-clause-records_in_bounds c =
+pub choose_hanging-requires : goal.choose_hanging-requires
+choose_hanging-requires c =
     let was = c.loop in
     let (v, r) = within c.args.most was.with (sym c.exceeds.ensures ∙ c.if-exceeds.false) in
     omega (arith, r, was.auto.chosen, c.requires.records_in_bounds)

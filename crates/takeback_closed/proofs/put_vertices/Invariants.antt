@@ -8,4 +8,4 @@ use Rattle.takeback_closed.proofs.put_vertices.Given as goal
 use Rattle.stored_entries.specs.Mesh.{vertex_read}
 
 abbrev pub invariant-loop-v : goal.invariant-loop-v
-invariant-loop-v l = (l.v ≤ l.count) × (l.out ≡ counts_below (vertex_put l.mesh.layout.format (vertex_read l.mesh) l.vertices) l.initial.out l.v)
+invariant-loop-v l = (l.v ≤ l.count) × (l.out ≡ counts_below (vertex_put l.mesh.layout.format (vertex_read l.mesh) l.numbers.vertices.now) l.initial.out l.v)

@@ -1,9 +1,8 @@
 -- `takeback_remains::cut_vertex`: what is found along the links is the vertex with the ends of the refinement edge as parents.
 -- Assumes nothing.
-use Rattle.mesh_parents.specs.Pairs.{vertex_with_is}
 use Rattle.takeback_remains.specs.Remains.{cut_vertex}
 use Rattle.takeback_remains.proofs.cut_vertex.Goals as goal
 
 pub returns : goal.returns
 unfolding cut_vertex
-returns c = rw (c.first_with.ensures, c.refinement_ends-ends.ensures) (vertex_with_is _ _ _ c.requires _)
+returns c = rw (c.vertex_with.ensures, c.refinement_ends-ends.ensures)

@@ -8,4 +8,4 @@ use Rattle.takeback_remains.specs.Held.{held_counted}
 use Rattle.takeback_remains.proofs.hold_all.Given as goal
 
 abbrev pub invariant-loop-n : goal.invariant-loop-n
-invariant-loop-n l = (l.n ≤ l.mesh.header.records) × (l.held ≡ counts_below (held_counted (tables_read l.mesh) (marked l.named)) l.initial.held l.n)
+invariant-loop-n l = (l.n ≤ l.linked.mesh.now.header.records) × (l.held ≡ counts_below (held_counted (tables_read l.linked.mesh.now) (marked l.named)) l.initial.held l.n)

@@ -8,4 +8,4 @@ use Rattle.takeback_remains.specs.Held.{kept_counted}
 use Rattle.takeback_remains.proofs.keep_all.Given as goal
 
 abbrev pub invariant-loop-n : goal.invariant-loop-n
-invariant-loop-n l = (l.n ≤ l.mesh.header.records) × (l.kept ≡ counts_below (kept_counted (tables_read l.mesh) l.vertices) l.initial.kept l.n)
+invariant-loop-n l = (l.n ≤ l.linked.mesh.now.header.records) × (l.kept ≡ counts_below (kept_counted (tables_read l.linked.mesh.now) l.vertices) l.initial.kept l.n)

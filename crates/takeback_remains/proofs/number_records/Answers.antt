@@ -6,20 +6,17 @@ use mathlib.Core.List.{List}
 use lib.ListN.{length}
 use Rattle.laws.specs.Below.{count_below}
 use Rattle.laws.specs.Counts.{counts_below}
-use Rattle.mesh_tables.specs.Tables.{tables}
+use Rattle.mesh_tables.specs.Tables.{tables_read}
 use Rattle.takeback_remains.specs.Numbers.{numbers_of}
 use Rattle.takeback_remains.specs.Held.{remains_by, kept_counted, kept_in}
 use Rattle.takeback_remains.specs.Left.{records_counted}
 use Rattle.takeback_remains.proofs.number_records.Goals as goal
 
-pub keep_all-requires : goal.keep_all-requires
-keep_all-requires c = c.requires.linked
-
 pub returns : goal.returns
 returns c =
     let a = c.args in
-    let h = a.mesh.now.header in
-    let m = tables h a.mesh.now.layout a.mesh.now.base.now a.mesh.now.grown.now in
+    let h = a.linked.now.mesh.now.header in
+    let m = tables_read a.linked.now.mesh.now in
     let size = length a.numbers.now in
     let kept : c.keep_all.new.kept ≡ kept_in m a.vertices.now (length a.counts.now) =
-    c.keep_all.ensures ∙ ap (λ (start : List ℕ). counts_below (kept_counted m a.vertices.now) start h.records) (c.fill.ensures.after (λ y e. e)) in record { numbers_after = c.number.ensures.numbers_after ∙ ap (λ (k : List ℕ). numbers_of (remains_by h.records h.base_records k) size) kept; value = c.number.ensures.value ∙ ap (λ (k : List ℕ). count_below size (remains_by h.records h.base_records k)) kept ∙ records_counted h.records h.base_records size _ c.requires.records_in_bounds }
+    c.keep_all.ensures ∙ ap (λ (start : List ℕ). counts_below (kept_counted m a.vertices.now) start h.records) (c.fill.ensures.after (λ y e. e)) in record { numbers_after = c.number.ensures.numbers_after ∙ ap (λ (k : List ℕ). numbers_of (remains_by h.records h.base_records k) size) kept; value = c.number.ensures.value ∙ ap (λ (k : List ℕ). count_below size (remains_by h.records h.base_records k)) kept ∙ records_counted h.records h.base_records size _ c.requires }

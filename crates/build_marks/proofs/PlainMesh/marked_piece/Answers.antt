@@ -1,4 +1,4 @@
--- `build_marks::marked_piece`: its six edges, each between two of its corners.
+-- `build_marks::PlainMesh::marked_piece`: its six edges, each between two of its corners.
 -- Assumes nothing.
 use mathlib.Core.Path.{◌≡◌, ◌∙◌}
 use mathlib.Core.List.{List}
@@ -11,7 +11,7 @@ use Rattle.grid.specs.declared.Place.{Place}
 use Rattle.build_marks.specs.declared.Edge.{Edge}
 use Rattle.build_marks.specs.Marking.{plain_place}
 use Rattle.build_marks.specs.Choosing.{edge_for, edge_of, edge_is, marked_by, marked_by_lem}
-use Rattle.build_marks.proofs.marked_piece.Goals as goal
+use Rattle.build_marks.proofs.PlainMesh.marked_piece.Goals as goal
 
 -- Edge e, from the places of its two ends.
 edge : (coordinates : List ℤ) (p : Piece) (e : ℕ) {x : Edge} {a b : Place} →
@@ -24,12 +24,12 @@ pub returns : goal.returns
 unfolding low_slot high_slot
 returns c =
     let args = c.args in
-    let coordinates = args.coordinates.now in
+    let coordinates = args.self.now.coordinates.now in
     let p = args.p in
-    let a = c.plain_place-a.ensures in
-    let b = c.plain_place-b.ensures in
-    let d = c.plain_place-c.ensures in
-    let e = c.plain_place-d.ensures in
+    let a = c.place-a.ensures in
+    let b = c.place-b.ensures in
+    let d = c.place-c.ensures in
+    let e = c.place-d.ensures in
     c.marked_by.ensures
     ∙ (λ i. marked_by p.corners p.material
     (edge coordinates p 0 c.edge_between.ensures a b i)
