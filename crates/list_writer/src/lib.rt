@@ -7,7 +7,7 @@ ghost use Rattle.list_writer.specs.Written.{written};
 
 #[derive(Drop)]
 pub struct Writer<'a> {
-    buffer: &'a mut [u8],
+    pub buffer: &'a mut [u8],
     pub at: usize,
 }
 
