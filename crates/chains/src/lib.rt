@@ -60,6 +60,58 @@ impl Links<'_, '_> {
         self.heads.fill(0);
     }
 
+    // These links, for reading alone.
+    pub fn read(&self) -> ReadLinks<'_>
+        ensures heads { result.heads.now ≡ self.now.heads.now }
+        ensures nexts { result.nexts.now ≡ self.now.nexts.now }
+    {
+        ReadLinks {
+            heads: &*self.heads,
+            nexts: &*self.nexts,
+        }
+    }
+
+    // Whether they have no room for n numbers.
+    pub fn is_short(&self, n: usize) -> bool
+        ensures { result ≡ short self.now.heads.now self.now.nexts.now n }
+    {
+        self.read().is_short(n)
+    }
+
+    // How many keys there are.
+    pub fn keys(&self) -> usize
+        ensures { result ≡ length self.now.heads.now }
+    {
+        self.read().keys()
+    }
+
+    // The number v is put before the others with key k, where there is room.
+    pub fn push(&mut self, k: usize, v: usize)
+        ensures pushed { links_in self.new ≡ pushed (links_in self.old) k v }
+        ensures same { SameSlices self.old self.new }
+    {
+        if self.heads.len() <= k {
+            return;
+        }
+        if self.nexts.len() <= v {
+            return;
+        }
+        if GREATEST as usize <= v {
+            return;
+        }
+        self.nexts[v] = self.heads[k];
+        self.heads[k] = (v + 1) as u16;
+    }
+}
+
+// The same links, lent for reading alone. A reader that asks one of the lists leaves the other alone, which may then be empty.
+#[derive(Clone, Copy)]
+pub struct ReadLinks<'a> {
+    pub heads: &'a [u16],
+    pub nexts: &'a [u16],
+}
+
+impl ReadLinks<'_> {
     // Whether they have no room for n numbers.
     pub fn is_short(&self, n: usize) -> bool
         ensures { result ≡ short self.now.heads.now self.now.nexts.now n }
@@ -97,24 +149,6 @@ impl Links<'_, '_> {
     {
         let to = at(self.nexts, u);
         if to <= u { to } else { 0 }
-    }
-
-    // The number v is put before the others with key k, where there is room.
-    pub fn push(&mut self, k: usize, v: usize)
-        ensures pushed { links_in self.new ≡ pushed (links_in self.old) k v }
-        ensures same { SameSlices self.old self.new }
-    {
-        if self.heads.len() <= k {
-            return;
-        }
-        if self.nexts.len() <= v {
-            return;
-        }
-        if GREATEST as usize <= v {
-            return;
-        }
-        self.nexts[v] = self.heads[k];
-        self.heads[k] = (v + 1) as u16;
     }
 
     // Whether the test says yes at some number along the links from one on.

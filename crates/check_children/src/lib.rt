@@ -7,6 +7,7 @@
 
 ghost use Rattle.std.specs.Prelude.{◌≡◌, false, ◌||◌, ◌≤◌, length};
 ghost use Rattle.laws.specs.Below.{any_below};
+ghost use Rattle.chains.specs.Held.{SameSlices, AsLong};
 ghost use Rattle.piece.specs.Same.{same_piece};
 ghost use Rattle.mesh_tables.specs.Tables.{tables_read, tables, vertex_with, refinement_ends};
 ghost use Rattle.check_refusals.specs.Refusals.{bad_children, too_deep, bad_cut, bad_record, bad_cuts};
@@ -166,18 +167,34 @@ fn is_cramped(h: Header, links: &Links, children: &[u16], midpoints: &[u16]) -> 
         || midpoints.len() < h.vertices as usize
 }
 
-// Links and tables are lent; what has no room for the mesh refuses.
-pub fn bad_cuts(mesh: &Mesh, links: &mut Links, children: &mut [u16], midpoints: &mut [u16]) -> bool
-    ensures { result ≡ (cramped mesh.now.header links.old.heads.now links.old.nexts.now children.old midpoints.old || bad_cuts (tables_read mesh.now)) }
+// What `bad_cuts` asks, in two lists: who lends them keeps both, each as long as it was.
+fn bad_in_lists(
+    mesh: &Mesh,
+    heads: &mut [u16],
+    nexts: &mut [u16],
+    children: &mut [u16],
+    midpoints: &mut [u16],
+) -> bool
+    ensures { result ≡ (cramped mesh.now.header heads.old nexts.old children.old midpoints.old || bad_cuts (tables_read mesh.now)) }
 {
+    let links = &mut Links { heads, nexts };
     if is_cramped(mesh.header, links, children, midpoints) {
         return true;
     }
     mesh_parents::link_pairs(mesh, links);
     let linked = LinkedMesh {
         mesh,
-        links: &*links,
+        links: links.read(),
     };
     midpoints.fill(0);
     bad_records(midpoints, &linked, children) || no_midpoints(&linked, midpoints)
+}
+
+// Links and tables are lent; what has no room for the mesh refuses.
+pub fn bad_cuts(mesh: &Mesh, links: &mut Links, children: &mut [u16], midpoints: &mut [u16]) -> bool
+    ensures value { result ≡ (cramped mesh.now.header links.old.heads.now links.old.nexts.now children.old midpoints.old || bad_cuts (tables_read mesh.now)) }
+    ensures same { SameSlices links.old links.new }
+    ensures as_long { AsLong links.old links.new }
+{
+    bad_in_lists(mesh, links.heads, links.nexts, children, midpoints)
 }

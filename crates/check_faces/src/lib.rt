@@ -7,7 +7,7 @@
 ghost use Rattle.std.specs.Prelude.{◌≡◌, ◌||◌, ◌+◌, ◌*◌, ◌≤◌, ◌<◌, length};
 ghost use Rattle.laws.specs.Below.{any_below};
 ghost use Rattle.laws.specs.Links.{greatest, pushed, short, Roomy, Empty};
-ghost use Rattle.chains.specs.Held.{links_in};
+ghost use Rattle.chains.specs.Held.{links_in, SameSlices, AsLong};
 ghost use Rattle.mesh_tables.specs.Tables.{tables_read};
 ghost use Rattle.check_refusals.specs.Refusals.{bad_faces, bad_base_faces};
 ghost use Rattle.check_shared.specs.Faces.{face_of};
@@ -15,7 +15,7 @@ ghost use Rattle.check_faces.specs.Faces.{is_face, is_before, bad_face};
 ghost use Rattle.check_faces.specs.Linked.{face_key, keys_of, KeysWithin, before_along, before_from, bad_along, bad_linked, pushed_faces};
 ghost use Rattle.stored_entries.specs.Mesh.{record_read};
 
-use chains::Links;
+use chains::{Links, ReadLinks};
 use check_shared::Face;
 use piece::Piece;
 use stored_entries::Mesh;
@@ -58,14 +58,14 @@ fn is_before(mesh: &Mesh, face: Face, r: usize, f: usize) -> bool
 }
 
 // Whether a record before r has this face, along the links from m on.
-fn before_along(mesh: &Mesh, links: &Links, m: usize, face: Face, r: usize) -> bool
+fn before_along(mesh: &Mesh, links: &ReadLinks, m: usize, face: Face, r: usize) -> bool
     ensures { result ≡ before_along (record_read mesh.now) links.now.nexts.now m face r }
 {
     links.any(m, |f| is_before(mesh, face, r, f))
 }
 
 // Whether face f is this one, which is face i of q, and the two records are bad together. Links lead down: a face of a record before stands further along.
-fn bad_face(mesh: &Mesh, links: &Links, q: Piece, i: u8, face: Face, f: usize) -> bool
+fn bad_face(mesh: &Mesh, links: &ReadLinks, q: Piece, i: u8, face: Face, f: usize) -> bool
     ensures { result ≡ bad_face (record_read mesh.now) (before_from (record_read mesh.now) links.now.nexts.now face) q i face f }
 {
     let r = f / 4;
@@ -80,7 +80,7 @@ fn bad_face(mesh: &Mesh, links: &Links, q: Piece, i: u8, face: Face, f: usize) -
 }
 
 // Whether face i of q is bad with a face along the links from m on.
-fn bad_along(mesh: &Mesh, links: &Links, m: usize, q: Piece, i: u8) -> bool
+fn bad_along(mesh: &Mesh, links: &ReadLinks, m: usize, q: Piece, i: u8) -> bool
     ensures { result ≡ bad_along (record_read mesh.now) links.now.nexts.now m q i }
 {
     let face = check_shared::face_of(q.corners, i);
@@ -88,7 +88,7 @@ fn bad_along(mesh: &Mesh, links: &Links, m: usize, q: Piece, i: u8) -> bool
 }
 
 // Whether one of q's faces is, each along the links of its own key. They are asked in one loop, so that the whole walk is compiled once and in one piece.
-fn bad_linked(mesh: &Mesh, links: &Links, q: Piece, own: [usize; 4]) -> bool
+fn bad_linked(mesh: &Mesh, links: &ReadLinks, q: Piece, own: [usize; 4]) -> bool
     ensures { result ≡ bad_linked (record_read mesh.now) links.now.heads.now links.now.nexts.now q own }
 {
     for i in 0..4u8 {
@@ -132,7 +132,7 @@ fn bad_record(mesh: &Mesh, links: &mut Links, n: usize) -> bool
 {
     let q = mesh.record(n).piece;
     let own = keys_of(links.keys(), q.corners);
-    let bad = bad_linked(mesh, links, q, own);
+    let bad = bad_linked(mesh, &links.read(), q, own);
     push_faces(links, own, n);
     bad
 }
@@ -150,16 +150,22 @@ fn bad_below(mesh: &Mesh, links: &mut Links, count: usize) -> bool
     false
 }
 
+// What `bad_base_faces` asks, in two lists: who lends them keeps both, each as long as it was.
+fn bad_in_lists(mesh: &Mesh, heads: &mut [u16], nexts: &mut [u16]) -> bool
+    ensures { Empty heads.old → result ≡ (short heads.old nexts.old (4 * mesh.now.header.base_records) || bad_base_faces (tables_read mesh.now)) }
+{
+    // In a struct of its own: where the two lists stand is then known after each write to them, and not read again.
+    let links = &mut Links { heads, nexts };
+    let count = mesh.header.base_records as usize;
+    links.is_short(4 * count) || bad_below(mesh, links, count)
+}
+
 // Lists that are too short for the faces are answered at once. The heads are to be lent as they were made: to clear as many once more takes a quarter of all rules'
 // time on a small mesh.
 pub fn bad_base_faces(mesh: &Mesh, links: &mut Links) -> bool
-    ensures { Empty links.old.heads.now → result ≡ (short links.old.heads.now links.old.nexts.now (4 * mesh.now.header.base_records) || bad_base_faces (tables_read mesh.now)) }
+    ensures value { Empty links.old.heads.now → result ≡ (short links.old.heads.now links.old.nexts.now (4 * mesh.now.header.base_records) || bad_base_faces (tables_read mesh.now)) }
+    ensures same { SameSlices links.old links.new }
+    ensures as_long { AsLong links.old links.new }
 {
-    let count = mesh.header.base_records as usize;
-    // The same two lists in a struct of its own: where they stand is then known after each write to them, and not read again.
-    let links = &mut Links {
-        heads: links.heads,
-        nexts: links.nexts,
-    };
-    links.is_short(4 * count) || bad_below(mesh, links, count)
+    bad_in_lists(mesh, links.heads, links.nexts)
 }

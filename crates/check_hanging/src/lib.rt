@@ -2,6 +2,7 @@
 #![tactic(auto)]
 
 ghost use Rattle.std.specs.Prelude.{◌≡◌};
+ghost use Rattle.chains.specs.Held.{SameSlices, AsLong};
 ghost use Rattle.mesh_tables.specs.Tables.{tables_read};
 ghost use Rattle.check_hanging.specs.Hanging.{found_of, found_along};
 
@@ -29,12 +30,12 @@ fn search(linked: &LinkedMesh) -> Option<HangingEdge>
             continue 'search;
         }
         let corners = linked.mesh.corners(n);
-        if !mesh_hanging::any_linked(linked.links, corners) {
+        if !mesh_hanging::any_linked(&linked.links, corners) {
             continue 'search;
         }
         for e in 0..6u8 {
             let ends = piece::ends_at(corners, e);
-            let head = mesh_parents::head_of(linked.links, ends);
+            let head = mesh_parents::head_of(&linked.links, ends);
             if linked
                 .links
                 .any(head, |v| mesh_parents::has_parents(linked.mesh, ends, v))
@@ -47,11 +48,11 @@ fn search(linked: &LinkedMesh) -> Option<HangingEdge>
     found
 }
 
-// The first edge found hanging. The made vertices are linked by their parents first, in lists that are lent; where there is none, none hangs, and where the
-// lists are too short for the links, nothing is looked for.
-pub fn first_hanging(mesh: &Mesh, links: &mut Links) -> Option<HangingEdge>
-    ensures { result ≡ found_along links.old.heads.now links.old.nexts.now (tables_read mesh.now) }
+// What `first_hanging` finds, in two lists: who lends them keeps both, each as long as it was.
+fn first_in_lists(mesh: &Mesh, heads: &mut [u16], nexts: &mut [u16]) -> Option<HangingEdge>
+    ensures { result ≡ found_along heads.old nexts.old (tables_read mesh.now) }
 {
+    let links = &mut Links { heads, nexts };
     if links.is_short(mesh.header.vertices as usize) {
         return None;
     }
@@ -61,7 +62,17 @@ pub fn first_hanging(mesh: &Mesh, links: &mut Links) -> Option<HangingEdge>
     mesh_parents::link_pairs(mesh, links);
     let linked = LinkedMesh {
         mesh,
-        links: &*links,
+        links: links.read(),
     };
     search(&linked)
+}
+
+// The first edge found hanging. The made vertices are linked by their parents first, in lists that are lent; where there is none, none hangs, and where the
+// lists are too short for the links, nothing is looked for.
+pub fn first_hanging(mesh: &Mesh, links: &mut Links) -> Option<HangingEdge>
+    ensures value { result ≡ found_along links.old.heads.now links.old.nexts.now (tables_read mesh.now) }
+    ensures same { SameSlices links.old links.new }
+    ensures as_long { AsLong links.old links.new }
+{
+    first_in_lists(mesh, links.heads, links.nexts)
 }

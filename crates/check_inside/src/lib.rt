@@ -4,7 +4,7 @@
 ghost use Rattle.std.specs.Prelude.{◌≡◌, ◌||◌, ◌<◌, ◌≤◌, min, max, length};
 ghost use Rattle.laws.specs.Below.{any_below};
 ghost use Rattle.laws.specs.Links.{linked_below, short, Chain};
-ghost use Rattle.chains.specs.Held.{links_in};
+ghost use Rattle.chains.specs.Held.{links_in, SameSlices, AsLong};
 ghost use Rattle.grid.specs.Places.{point_of};
 ghost use Rattle.grid_volume.specs.Volume.{corners_of, left_handed};
 ghost use Rattle.grid_inside.specs.Inside.{lies_in};
@@ -13,7 +13,7 @@ ghost use Rattle.check_refusals.specs.Refusals.{hangs_on, hanging_vertices};
 ghost use Rattle.check_inside.specs.Cells.{slab_of, slabs_of, cell_number, place_key, lower_of, upper_of, low_of, high_of, asking_of, standing, is_corner, is_within, hangs_among, hangs_below, in_cell, in_row, in_layer, in_block};
 ghost use Rattle.stored_entries.specs.Mesh.{vertex_read, record_read};
 
-use chains::Links;
+use chains::{Links, ReadLinks};
 use grid::Place;
 use stored_entries::Mesh;
 
@@ -225,7 +225,7 @@ fn any_vertex(mesh: &Mesh, count: u32, q: Asking) -> bool
 // Those in one cell.
 fn any_in_cell(
     mesh: &Mesh,
-    links: &Links,
+    links: &ReadLinks,
     count: u32,
     q: Asking,
     space: PieceBox,
@@ -244,7 +244,7 @@ fn any_in_cell(
 // Those in a row of cells, in a layer and in a block. Kept three: each goes along an axis of its own and asks the one before it.
 fn any_in_row(
     mesh: &Mesh,
-    links: &Links,
+    links: &ReadLinks,
     count: u32,
     q: Asking,
     space: PieceBox,
@@ -264,7 +264,7 @@ fn any_in_row(
 
 fn any_in_layer(
     mesh: &Mesh,
-    links: &Links,
+    links: &ReadLinks,
     count: u32,
     q: Asking,
     space: PieceBox,
@@ -283,7 +283,7 @@ fn any_in_layer(
 
 fn any_in_block(
     mesh: &Mesh,
-    links: &Links,
+    links: &ReadLinks,
     count: u32,
     q: Asking,
     space: PieceBox,
@@ -318,7 +318,7 @@ fn too_many(count: u32, block: Block) -> bool {
 }
 
 // Record n: where it is right-handed, what lies in it lies in its box, and the cells that the box meets are asked, unless there are more of them than vertices.
-fn record_hangs(mesh: &Mesh, links: &Links, count: u32, width: u16, n: usize) -> bool
+fn record_hangs(mesh: &Mesh, links: &ReadLinks, count: u32, width: u16, n: usize) -> bool
     ensures { 0 < length links.now.heads.now → Chain (λ v. place_key (length links.now.heads.now) width (vertex_read mesh.now v).place) count links.now.heads.now links.now.nexts.now → result ≡ any_below count (hangs_on (vertex_read mesh.now) (record_read mesh.now n).piece) }
 {
     let q = asking_of(mesh, n);
@@ -361,7 +361,7 @@ fn width_for(mesh: &Mesh, records: u32) -> u16 {
     (sum / seen) as u16
 }
 
-fn any_record(mesh: &Mesh, links: &Links, vertices: u32, records: usize, width: u16) -> bool
+fn any_record(mesh: &Mesh, links: &ReadLinks, vertices: u32, records: usize, width: u16) -> bool
     ensures { 0 < length links.now.heads.now → Chain (λ v. place_key (length links.now.heads.now) width (vertex_read mesh.now v).place) vertices links.now.heads.now links.now.nexts.now → result ≡ any_below records (λ n. any_below vertices (hangs_on (vertex_read mesh.now) (record_read mesh.now n).piece)) }
 {
     for n in 0..records {
@@ -372,16 +372,13 @@ fn any_record(mesh: &Mesh, links: &Links, vertices: u32, records: usize, width: 
     false
 }
 
-// Refusal 23. Lists that are too short for the vertices are answered at once.
-pub fn hanging_vertices(mesh: &Mesh, links: &mut Links) -> bool
-    ensures { result ≡ (short links.old.heads.now links.old.nexts.now mesh.now.header.base_vertices || hanging_vertices (tables_read mesh.now)) }
+// What `hanging_vertices` asks, in two lists: who lends them keeps both, each as long as it was.
+fn hanging_in_lists(mesh: &Mesh, heads: &mut [u16], nexts: &mut [u16]) -> bool
+    ensures { result ≡ (short heads.old nexts.old mesh.now.header.base_vertices || hanging_vertices (tables_read mesh.now)) }
 {
+    // In a struct of its own: where the two lists stand is then known after each write to them, and not read again.
+    let links = &mut Links { heads, nexts };
     let count = mesh.header.base_vertices as usize;
-    // The same two lists in a struct of its own: where they stand is then known after each write to them, and not read again.
-    let links = &mut Links {
-        heads: links.heads,
-        nexts: links.nexts,
-    };
     if links.is_short(count) {
         return true;
     }
@@ -390,9 +387,18 @@ pub fn hanging_vertices(mesh: &Mesh, links: &mut Links) -> bool
     link_all(mesh, count, width, links);
     any_record(
         mesh,
-        links,
+        &links.read(),
         mesh.header.base_vertices,
         mesh.header.base_records as usize,
         width,
     )
+}
+
+// Refusal 23. Lists that are too short for the vertices are answered at once.
+pub fn hanging_vertices(mesh: &Mesh, links: &mut Links) -> bool
+    ensures value { result ≡ (short links.old.heads.now links.old.nexts.now mesh.now.header.base_vertices || hanging_vertices (tables_read mesh.now)) }
+    ensures same { SameSlices links.old links.new }
+    ensures as_long { AsLong links.old links.new }
+{
+    hanging_in_lists(mesh, links.heads, links.nexts)
 }

@@ -4,14 +4,14 @@
 
 ghost use Rattle.std.specs.Prelude.{◌≡◌, ◌||◌, length};
 ghost use Rattle.laws.specs.Links.{pushed, short, Roomy, Empty};
-ghost use Rattle.chains.specs.Held.{links_in, SameSlices};
+ghost use Rattle.chains.specs.Held.{links_in, SameSlices, AsLong};
 ghost use Rattle.grid.specs.Places.{same_place};
 ghost use Rattle.mesh_tables.specs.Tables.{tables_read};
 ghost use Rattle.check_refusals.specs.Refusals.{bad_base_vertex, bad_made_vertex, pair_twice, bad_vertex, bad_vertices};
 ghost use Rattle.check_places.specs.Kept.{place_key, vertex_key, VerticesKept, place_along};
 ghost use Rattle.stored_entries.specs.Mesh.{vertex_read};
 
-use chains::Links;
+use chains::{Links, ReadLinks};
 use grid::Place;
 use stored::Vertex;
 use stored_entries::Mesh;
@@ -42,7 +42,7 @@ fn place_key(keys: usize, place: Place) -> usize
 }
 
 // Whether a vertex along the links stands at this place.
-fn place_along(mesh: &Mesh, links: &Links, place: Place) -> bool
+fn place_along(mesh: &Mesh, links: &ReadLinks, place: Place) -> bool
     ensures { result ≡ place_along (vertex_read mesh.now) links.now.heads.now links.now.nexts.now place }
 {
     links.any(
@@ -61,7 +61,7 @@ fn bad_made_vertex(mesh: &Mesh, v: usize) -> bool
 }
 
 // Whether a vertex before v has v's parents.
-fn pair_twice(mesh: &Mesh, links: &Links, v: usize) -> bool
+fn pair_twice(mesh: &Mesh, links: &ReadLinks, v: usize) -> bool
     ensures { VerticesKept (tables_read mesh.now) v links.now.heads.now links.now.nexts.now → result ≡ pair_twice (tables_read mesh.now) v }
 {
     let ends = mesh.parents(v);
@@ -70,7 +70,7 @@ fn pair_twice(mesh: &Mesh, links: &Links, v: usize) -> bool
 }
 
 // Vertex v, where those before it are linked.
-fn bad_vertex(mesh: &Mesh, links: &Links, v: usize) -> bool
+fn bad_vertex(mesh: &Mesh, links: &ReadLinks, v: usize) -> bool
     ensures { VerticesKept (tables_read mesh.now) v links.now.heads.now links.now.nexts.now → result ≡ bad_vertex (tables_read mesh.now) v }
 {
     if v < mesh.header.base_vertices as usize {
@@ -108,7 +108,7 @@ fn any_bad(mesh: &Mesh, links: &mut Links) -> bool
 {
     let count = mesh.header.vertices as usize;
     for v in 0..count {
-        if bad_vertex(mesh, links, v) {
+        if bad_vertex(mesh, &links.read(), v) {
             return true;
         }
         link_vertex(mesh, links, v);
@@ -116,9 +116,19 @@ fn any_bad(mesh: &Mesh, links: &mut Links) -> bool
     false
 }
 
+// What `bad_vertices` asks, in two lists: who lends them keeps both, each as long as it was.
+fn bad_in_lists(mesh: &Mesh, heads: &mut [u16], nexts: &mut [u16]) -> bool
+    ensures { Empty heads.old → result ≡ (short heads.old nexts.old mesh.now.header.vertices || bad_vertices (tables_read mesh.now)) }
+{
+    let links = &mut Links { heads, nexts };
+    links.is_short(mesh.header.vertices as usize) || any_bad(mesh, links)
+}
+
 // The links are lent, and the heads are to be lent as they were made; lists that are too short for them refuse.
 pub fn bad_vertices(mesh: &Mesh, links: &mut Links) -> bool
-    ensures { Empty links.old.heads.now → result ≡ (short links.old.heads.now links.old.nexts.now mesh.now.header.vertices || bad_vertices (tables_read mesh.now)) }
+    ensures value { Empty links.old.heads.now → result ≡ (short links.old.heads.now links.old.nexts.now mesh.now.header.vertices || bad_vertices (tables_read mesh.now)) }
+    ensures same { SameSlices links.old links.new }
+    ensures as_long { AsLong links.old links.new }
 {
-    links.is_short(mesh.header.vertices as usize) || any_bad(mesh, links)
+    bad_in_lists(mesh, links.heads, links.nexts)
 }

@@ -5,3 +5,4 @@ pub mod Rows
 pub mod Bounded
 pub mod Lent
 pub mod Outcomes
+pub mod OneOutcome

@@ -1,15 +1,19 @@
 -- Check's answer without the figures, and what it leaves to add.
-use Rattle.std.specs.Prelude.{◌≡◌, Bool, ◌≢◌, ◌^◌, ◌≤◌, ◌<◌, eqb}
+use Rattle.std.specs.Prelude.{◌≡◌, Bool, ◌≢◌, ◌^◌, ◌≤◌, ◌<◌, ℕ, Result, eqb}
 use Rattle.std.proofs.Math.Path.{refl}
-use Rattle.std.proofs.Common.{sym, ◌∙◌, arith, ne_eqb}
+use Rattle.std.proofs.Common.{sym, ◌∙◌, ⊎_elim, arith, ne_eqb, eqb-true}
+use Rattle.std.proofs.lemmas.Bool.{eqb-false}
 use Rattle.std.proofs.Math.Bool.{true, false, cond}
 use Rattle.std.proofs.Math.Nat.{mul-le-mul_right}
-use Rattle.laws.specs.Below.{sum_at_most}
+use Rattle.laws.specs.Below.{either, sum_at_most}
 use Rattle.laws.proofs.Order.{none_broken_lem}
 use Rattle.stored.specs.Layout.{limits, Stored, header_of, layout_in}
 use Rattle.mesh_tables.specs.Tables.{tables_of, base_records, piece_at}
 use Rattle.check_refusals.specs.declared.Report.{Report}
+use Rattle.check_refusals.specs.declared.Refusal.{Refusal}
 use Rattle.check_refusals.specs.Bounded.{Bounded, bounded}
+use Rattle.check_refusals.specs.Outcomes.{outcome_number, outcome_report}
+use Rattle.check_refusals.specs.OneOutcome.{one_outcome, same_outcome}
 use Rattle.check_refusals.specs.Rows.{report_number}
 use Rattle.check_refusals.specs.Check.{rows, table_rows, check_number, sixfold, refused_with, accepted, hanging_report, report_of, check_of}
 use Rattle.check_meaning.proofs.Exactly.{accepts_exactly}
@@ -28,6 +32,25 @@ VerdictIs s r = r ≡ without_figures (check_of s)
 
 pub one_verdict : (s : Stored) (r r' : Report) → VerdictIs s r → VerdictIs s r' → r ≡ r'
 one_verdict s r r' is is' = is ∙ sym is'
+
+pub one_verdict_answer : (s : Stored) (o o' : Result Unit Refusal) → VerdictIs s (outcome_report o) → VerdictIs s (outcome_report o') → o ≡ o'
+one_verdict_answer s o o' is is' = one_outcome o o' (one_verdict s (outcome_report o) (outcome_report o') is is')
+
+-- An answer with 10 names the edge that check reports: its record and its edge code.
+abbrev pub NamesTheEdge : Stored → Result Unit Refusal → Type 0
+NamesTheEdge s o = outcome_number o ≡ 10 → VerdictIs s (outcome_report o)
+
+-- Any other number names none.
+pub names_none : (s : Stored) (o : Result Unit Refusal) (n : ℕ) → outcome_number o ≡ n → eqb n 10 ≡ false → NamesTheEdge s o
+names_none s o n is other ten = absurd (eqb-false n 10 other (sym is ∙ ten))
+
+-- Two answers with one number that name the edge are one.
+pub one_answer : (s : Stored) (o o' : Result Unit Refusal) → outcome_number o ≡ outcome_number o' → NamesTheEdge s o → NamesTheEdge s o' → o ≡ o'
+one_answer s o o' n named named' =
+    ⊎_elim
+    (λ t. let ten = eqb-true (outcome_number o) 10 t in one_verdict_answer s o o' (named ten) (named' (sym n ∙ ten)))
+    (λ f. same_outcome o o' n f)
+    (either (eqb (outcome_number o) 10))
 
 module _ (s : Stored) where
   -- A refusal has none.

@@ -5,12 +5,12 @@ ghost use Rattle.std.specs.Prelude.{◌≡◌};
 ghost use Rattle.mesh_tables.specs.Tables.{tables_read};
 ghost use Rattle.mesh_hanging.specs.Hanging.{is_linked, any_linked, corners_hang, leaf_hangs_along};
 
-use chains::Links;
+use chains::ReadLinks;
 use piece::Ends;
 use stored_entries::Mesh;
 
 // Whether there are links with the key of these ends.
-fn is_linked(links: &Links, ends: Ends) -> bool
+fn is_linked(links: &ReadLinks, ends: Ends) -> bool
     ensures { result ≡ is_linked links.now.heads.now ends }
 {
     mesh_parents::head_of(links, ends) != 0
@@ -18,7 +18,7 @@ fn is_linked(links: &Links, ends: Ends) -> bool
 
 // Whether there are with the key of an edge's ends, one edge after the other. Of most leaves there are none, and then no edge hangs.
 // The six are written out, since each leaf is asked: a loop would look up the slots of each edge code.
-pub fn any_linked(links: &Links, corners: [u32; 4]) -> bool
+pub fn any_linked(links: &ReadLinks, corners: [u32; 4]) -> bool
     ensures { result ≡ any_linked links.now.heads.now corners }
 {
     let [a, b, c, d] = corners;
@@ -31,7 +31,7 @@ pub fn any_linked(links: &Links, corners: [u32; 4]) -> bool
 }
 
 // Whether an edge of a piece with these corners hangs.
-fn corners_hang(mesh: &Mesh, links: &Links, corners: [u32; 4]) -> bool
+fn corners_hang(mesh: &Mesh, links: &ReadLinks, corners: [u32; 4]) -> bool
     ensures { result ≡ corners_hang (tables_read mesh.now) links.now.heads.now links.now.nexts.now corners }
 {
     let count = mesh.header.vertices as usize;
@@ -46,7 +46,7 @@ fn corners_hang(mesh: &Mesh, links: &Links, corners: [u32; 4]) -> bool
 }
 
 // Whether record n is a leaf that has a hanging edge, where the made vertices are linked already; they may be more than the header counts.
-pub fn leaf_hangs(mesh: &Mesh, links: &Links, n: usize) -> bool
+pub fn leaf_hangs(mesh: &Mesh, links: &ReadLinks, n: usize) -> bool
     ensures { result ≡ leaf_hangs_along (tables_read mesh.now) links.now.heads.now links.now.nexts.now n }
 {
     if !mesh_tables::is_leaf(mesh, n) {

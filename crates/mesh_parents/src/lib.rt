@@ -8,7 +8,7 @@ ghost use Rattle.chains.specs.Held.{links_in, SameSlices};
 ghost use Rattle.mesh_tables.specs.Tables.{tables_read, has_parents, vertex_with};
 ghost use Rattle.mesh_parents.specs.Pairs.{pair_sum, pair_key, key_of, pair_links, cleared, Linked, Linked_prop};
 
-use chains::Links;
+use chains::{Links, ReadLinks};
 use piece::Ends;
 use stored_entries::Mesh;
 
@@ -90,14 +90,14 @@ fn has_parents_below(mesh: &Mesh, count: usize, ends: Ends, u: usize) -> bool
 }
 
 // Whether a vertex below count has these parents, along the links from one on.
-pub fn any_from(mesh: &Mesh, links: &Links, count: usize, ends: Ends, from: usize) -> bool
+pub fn any_from(mesh: &Mesh, links: &ReadLinks, count: usize, ends: Ends, from: usize) -> bool
     ensures { result ≡ any_along links.now.nexts.now (λ u. ltb u count && has_parents (tables_read mesh.now) ends u) from }
 {
     links.any(from, |u| has_parents_below(mesh, count, ends, u))
 }
 
 // Where the links of a pair's key begin.
-pub fn head_of(links: &Links, ends: Ends) -> usize
+pub fn head_of(links: &ReadLinks, ends: Ends) -> usize
     ensures { result ≡ get_or links.now.heads.now (pair_key (length links.now.heads.now) ends) 0 }
 {
     links.first(pair_sum(ends))
@@ -105,7 +105,7 @@ pub fn head_of(links: &Links, ends: Ends) -> usize
 
 // The lowest vertex along the links with these parents; the count of vertices where there is none: kept a number and no Option, as the definition
 // `vertex_with` is, since a vertex that a cut appends gets this number.
-pub fn first_with(mesh: &Mesh, links: &Links, ends: Ends) -> usize
+pub fn first_with(mesh: &Mesh, links: &ReadLinks, ends: Ends) -> usize
     ensures { result ≡ first_along links.now.nexts.now (has_parents (tables_read mesh.now) ends) (get_or links.now.heads.now (pair_key (length links.now.heads.now) ends) 0) mesh.now.header.vertices }
 {
     links.lowest(
@@ -117,17 +117,17 @@ pub fn first_with(mesh: &Mesh, links: &Links, ends: Ends) -> usize
 
 // A mesh with its made vertices linked by their parents.
 #[derive(Clone, Copy)]
-pub struct LinkedMesh<'a> {
-    pub mesh: &'a Mesh<'a>,
-    pub links: &'a Links<'a, 'a>,
-    pub ghost linked: { Linked (tables_read mesh.now) links.now.heads.now links.now.nexts.now } by { Linked_prop (tables_read mesh.now) links.now.heads.now links.now.nexts.now },
+pub struct LinkedMesh<'m, 'b, 'l> {
+    pub mesh: &'m Mesh<'b>,
+    pub links: ReadLinks<'l>,
+    pub ghost linked: { Linked (tables_read mesh.now) links.heads.now links.nexts.now } by { Linked_prop (tables_read mesh.now) links.heads.now links.nexts.now },
 }
 
-impl<'a> LinkedMesh<'a> {
+impl LinkedMesh<'_, '_, '_> {
     // The vertex with these parents; the count of vertices where there is none.
     pub fn vertex_with(&self, ends: Ends) -> usize
         ensures { result ≡ vertex_with (tables_read self.now.mesh.now) ends }
     {
-        first_with(self.mesh, self.links, ends)
+        first_with(self.mesh, &self.links, ends)
     }
 }

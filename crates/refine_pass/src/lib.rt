@@ -6,6 +6,7 @@
 
 ghost use Rattle.std.specs.Prelude.{◌≡◌, true, ◌≤◌, ◌<◌, length};
 ghost use Rattle.laws.specs.Counts.{marked};
+ghost use Rattle.chains.specs.Held.{SameSlices, AsLong};
 ghost use Rattle.stored.specs.Layout.{numbers_reach, selection_in, named_in};
 ghost use Rattle.mesh_tables.specs.Tables.{tables_read, tables, leaf_hangs};
 ghost use Rattle.mesh_parents.specs.Pairs.{Linked};
@@ -16,7 +17,7 @@ ghost use Rattle.refine_pass.specs.Puts.{turn_put, pass_put, closing_put, refine
 ghost use Rattle.refine_pass.specs.Chosen.{table_of, Chosen};
 ghost use Rattle.refine_pass.specs.Linked.{Linking, AtWork};
 
-use chains::Links;
+use chains::{Links, ReadLinks};
 use mesh_parents::LinkedMesh;
 use stored::{Format, Header, Kind, Layout, Limits};
 use stored_entries::Mesh;
@@ -32,7 +33,14 @@ pub fn exceeds(most: Limits, h: Header) -> bool
 // Record n is cut at the vertex with its refinement edge's ends for parents, which is looked for along the links.
 // Kept: what it asks of the links stands here and not in a `LinkedMesh`, which holds slices that are read, and these are written.
 // Kept two slices: a struct that holds both for writing would have each function promise as well that it keeps the same two and the layout.
-fn cut(h: Header, l: Layout, base: &mut [u8], grown: &mut [u8], links: &Links, n: usize) -> Header
+fn cut(
+    h: Header,
+    l: Layout,
+    base: &mut [u8],
+    grown: &mut [u8],
+    links: &ReadLinks,
+    n: usize,
+) -> Header
     requires { Linked (tables h l base.old grown.old) links.now.heads.now links.now.nexts.now }
     ensures { slices result base.new grown.new ≡ cut_put l (slices h base.old grown.old) n }
 {
@@ -76,7 +84,7 @@ fn turn(
     if exceeds(most, h) {
         return h;
     }
-    let with = cut(h, l, base, grown, links, n);
+    let with = cut(h, l, base, grown, &links.read(), n);
     let mesh = Mesh {
         header: with,
         layout: l,
@@ -108,7 +116,7 @@ fn choose_hanging(linked: &LinkedMesh, chosen: &mut [u16]) -> bool
     let records = linked.mesh.header.records as usize;
     let mut some = false;
     for n in 0..records {
-        let hangs = mesh_hanging::leaf_hangs(linked.mesh, linked.links, n);
+        let hangs = mesh_hanging::leaf_hangs(linked.mesh, &linked.links, n);
         chosen[n] = u16::from(hangs);
         some |= hangs;
     }
@@ -173,7 +181,7 @@ fn close(
         };
         let linked = LinkedMesh {
             mesh: &mesh,
-            links: &*links,
+            links: links.read(),
         };
         if !choose_hanging(&linked, chosen) {
             return with;
@@ -205,20 +213,22 @@ fn passes(
     close(most, with, l, base, grown, links, chosen)
 }
 
-// The same of a kind whose numbers reach far enough.
+// The same of a kind whose numbers reach far enough, with the links in two lists: who lends them keeps both, each as long as it was.
 fn refined_within(
     k: Kind,
     h: Header,
     base: &mut [u8],
     grown: &mut [u8],
-    links: &mut Links,
+    heads: &mut [u16],
+    nexts: &mut [u16],
     chosen: &mut [u16],
     selection: &[u8],
     count: usize,
 ) -> Header
     requires { numbers_reach k ≡ true }
-    ensures { slices result base.new grown.new ≡ refined_within k (too_short k.limits links.old.heads.now links.old.nexts.now chosen.old) (is_named count (named_in (selection_in k.format selection.now))) (slices h base.old grown.old) }
+    ensures { slices result base.new grown.new ≡ refined_within k (too_short k.limits heads.old nexts.old chosen.old) (is_named count (named_in (selection_in k.format selection.now))) (slices h base.old grown.old) }
 {
+    let links = &mut Links { heads, nexts };
     let most = k.limits;
     let format = k.format;
     if exceeds(most, h) {
@@ -259,10 +269,22 @@ pub fn refined(
     selection: &[u8],
     count: usize,
 ) -> Header
-    ensures { slices result base.new grown.new ≡ refined_within k (too_short k.limits links.old.heads.now links.old.nexts.now chosen.old) (is_named count (named_in (selection_in k.format selection.now))) (slices h base.old grown.old) }
+    ensures value { slices result base.new grown.new ≡ refined_within k (too_short k.limits links.old.heads.now links.old.nexts.now chosen.old) (is_named count (named_in (selection_in k.format selection.now))) (slices h base.old grown.old) }
+    ensures same { SameSlices links.old links.new }
+    ensures as_long { AsLong links.old links.new }
 {
     if !stored::numbers_reach(k) {
         return h;
     }
-    refined_within(k, h, base, grown, links, chosen, selection, count)
+    refined_within(
+        k,
+        h,
+        base,
+        grown,
+        links.heads,
+        links.nexts,
+        chosen,
+        selection,
+        count,
+    )
 }

@@ -2,3 +2,4 @@
 pub mod Refine
 pub mod Order
 pub mod Storing
+pub mod Answer

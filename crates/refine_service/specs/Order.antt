@@ -8,7 +8,7 @@ use Rattle.stored.specs.Layout.{Stored, StoredSelection, selection_of, named_in}
 use Rattle.mesh_tables.specs.Tables.{Tables}
 use Rattle.check_refusals.specs.declared.Report.{Report}
 use Rattle.check_refusals.specs.declared.Refusal.{Refusal}
-use Rattle.check_refusals.specs.Check.{check_number}
+use Rattle.check_refusals.specs.Check.{check_number, check_of}
 use Rattle.check_refusals.specs.Outcomes.{outcome_number, outcome_report, outcome_reported}
 use Rattle.check_refusals.specs.Rows.{report_number}
 use Rattle.check_service.specs.Verdict.{VerdictIs}
@@ -33,6 +33,9 @@ module _ (m : Tables) (t : StoredSelection) where
   unfolding selection_number refine_selection_rows selection_rows named_number
   selection_right e = sym (one_after_other (selection_rows m.header t) _ refl ∙ rw e)
 
--- The number of the verdict is check's.
+-- The number of the verdict is check's: the number in its report says so.
+pub number_told : (s : Stored) (o : Result Unit Refusal) → (outcome_report o).number ≡ (check_of s).number → outcome_number o ≡ check_number s
+number_told s o is = sym (outcome_reported o) ∙ is ∙ report_number s
+
 pub verdict_number : (s : Stored) (o : Result Unit Refusal) → VerdictIs s (outcome_report o) → outcome_number o ≡ check_number s
-verdict_number s o is = sym (outcome_reported o) ∙ ap (λ (r : Report). r.number) is ∙ report_number s
+verdict_number s o is = number_told s o (ap (λ (r : Report). r.number) is)

@@ -5,6 +5,7 @@ ghost use Rattle.std.specs.Prelude.{◌≡◌, false, length};
 ghost use Rattle.stored.specs.Layout.{kind1, stored1, selection_in, selection1, named_in};
 ghost use Rattle.mesh_tables.specs.Tables.{tables_read};
 ghost use Rattle.check_refusals.specs.Outcomes.{outcome_number};
+ghost use Rattle.check_service.specs.Verdict.{NamesTheEdge};
 ghost use Rattle.refine_selection.specs.Selected.{is_named};
 ghost use Rattle.refine_cut.specs.Slices.{slices};
 ghost use Rattle.refine_pass.specs.Puts.{refined_within};
@@ -117,7 +118,8 @@ fn store(mesh: &[u8], h: Header, selection: &[u8], out: &mut [u8]) -> Result<(),
 }
 
 pub fn refine(mesh: &[u8], selection: &[u8], out: &mut [u8]) -> Result<(), Refusal>
-    ensures { RefineOutcomeIs (stored1 mesh.now) (selection1 selection.now) (length out.old) (outcome_number result) out.new }
+    ensures outcome { RefineOutcomeIs (stored1 mesh.now) (selection1 selection.now) (length out.old) (outcome_number result) out.new }
+    ensures edge { NamesTheEdge (stored1 mesh.now) result }
 {
     out.fill(0);
     check_service::verdict(mesh)?;

@@ -8,6 +8,7 @@
 ghost use Rattle.std.specs.Prelude.{◌≡◌, ◌≤◌, length};
 ghost use Rattle.laws.specs.Below.{count_below};
 ghost use Rattle.laws.specs.Counts.{counts_below, marked};
+ghost use Rattle.chains.specs.Held.{SameSlices, AsLong};
 ghost use Rattle.mesh_tables.specs.Tables.{tables_read, tables};
 ghost use Rattle.takeback_remains.specs.Remains.{cut_vertex, leaf_children, freed, vertex_remains, header_again};
 ghost use Rattle.takeback_remains.specs.Numbers.{numbers_of, new_in};
@@ -211,18 +212,19 @@ fn is_cramped(h: Header, links: &Links, counts: &[u16], numbers: &NewNumbers) ->
         || numbers.records.len() < h.records as usize
 }
 
-// The new numbers of all vertices and records, and the header with as many as remain. Links and counts are lent; where what is lent has no room, nothing is
-// done.
-pub fn remaining(
+// What `remaining` gives, in two lists: who lends them keeps both, each as long as it was.
+fn remaining_in_lists(
     mesh: &Mesh,
     named: &[u16],
-    links: &mut Links,
+    heads: &mut [u16],
+    nexts: &mut [u16],
     counts: &mut [u16],
     vertices: &mut [u32],
     records: &mut [u32],
 ) -> Header
-    ensures { left_of result vertices.new records.new ≡ left_within (cramped mesh.now.header links.old.heads.now links.old.nexts.now counts.old vertices.old records.old) (tables_read mesh.now) (marked named.now) (left_of mesh.now.header vertices.old records.old) }
+    ensures { left_of result vertices.new records.new ≡ left_within (cramped mesh.now.header heads.old nexts.old counts.old vertices.old records.old) (tables_read mesh.now) (marked named.now) (left_of mesh.now.header vertices.old records.old) }
 {
+    let links = &mut Links { heads, nexts };
     if is_cramped(
         mesh.header,
         links,
@@ -234,9 +236,34 @@ pub fn remaining(
     mesh_parents::link_pairs(mesh, links);
     let linked = LinkedMesh {
         mesh,
-        links: &*links,
+        links: links.read(),
     };
     let of_vertices = number_vertices(vertices, counts, &linked, named);
     let of_records = number_records(records, counts, &linked, vertices);
     header_again(linked.mesh.header, of_vertices, of_records)
+}
+
+// The new numbers of all vertices and records, and the header with as many as remain. Links and counts are lent; where what is lent has no room, nothing is
+// done.
+pub fn remaining(
+    mesh: &Mesh,
+    named: &[u16],
+    links: &mut Links,
+    counts: &mut [u16],
+    vertices: &mut [u32],
+    records: &mut [u32],
+) -> Header
+    ensures value { left_of result vertices.new records.new ≡ left_within (cramped mesh.now.header links.old.heads.now links.old.nexts.now counts.old vertices.old records.old) (tables_read mesh.now) (marked named.now) (left_of mesh.now.header vertices.old records.old) }
+    ensures same { SameSlices links.old links.new }
+    ensures as_long { AsLong links.old links.new }
+{
+    remaining_in_lists(
+        mesh,
+        named,
+        links.heads,
+        links.nexts,
+        counts,
+        vertices,
+        records,
+    )
 }

@@ -2,3 +2,4 @@
 pub mod TakeBack
 pub mod Order
 pub mod Storing
+pub mod Answer

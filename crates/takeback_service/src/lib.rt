@@ -5,6 +5,7 @@ ghost use Rattle.std.specs.Prelude.{◌≡◌, length};
 ghost use Rattle.stored.specs.Layout.{kind1, stored1, selection_in, selection1, named_in};
 ghost use Rattle.mesh_tables.specs.Tables.{tables_read, uncut};
 ghost use Rattle.check_refusals.specs.Outcomes.{outcome_number};
+ghost use Rattle.check_service.specs.Verdict.{NamesTheEdge};
 ghost use Rattle.takeback_service.specs.TakeBack.{left, names_uncut, TakeBackOutcomeIs};
 ghost use Rattle.takeback_service.specs.Order.{request_number, named_number, room_number, later_bytes};
 ghost use Rattle.takeback_service.specs.Storing.{Ready};
@@ -99,7 +100,8 @@ fn store(mesh: &[u8], h: Header, request: &[u8], out: &mut [u8]) -> Result<(), R
 }
 
 pub fn take_back(mesh: &[u8], request: &[u8], out: &mut [u8]) -> Result<(), Refusal>
-    ensures { TakeBackOutcomeIs (stored1 mesh.now) (selection1 request.now) (length out.old) (outcome_number result) out.new }
+    ensures outcome { TakeBackOutcomeIs (stored1 mesh.now) (selection1 request.now) (length out.old) (outcome_number result) out.new }
+    ensures edge { NamesTheEdge (stored1 mesh.now) result }
 {
     out.fill(0);
     check_service::verdict(mesh)?;

@@ -29,7 +29,7 @@ search-preserved-then-not-is_leaf c =
 pub search-preserved-then-not-any_linked : goal.search-preserved-then-not-any_linked
 search-preserved-then-not-any_linked c =
     let (none, before) = c.search.invariant in
-    let rest : any_linked c.args.linked.now.links.now.heads.now (piece_at (tables_read c.args.linked.now.mesh.now) c.search.n).corners ≡ false = rw (← c.corners-corners.ensures) (sym c.any_linked.ensures ∙ c.if-not-any_linked.true) in
+    let rest : any_linked c.args.linked.now.links.heads.now (piece_at (tables_read c.args.linked.now.mesh.now) c.search.n).corners ≡ false = rw (← c.corners-corners.ensures) (sym c.any_linked.ensures ∙ c.if-not-any_linked.true) in
     (none, any_next _ _ before (leaf_not_linked _ _ _ c.args.linked.now.linked _ rest))
 
 pub loop-e-init : goal.loop-e-init

@@ -16,7 +16,7 @@ pub returns-then-bad_vertex : goal.returns-then-bad_vertex
 unfolding bad_vertices
 returns-then-bad_vertex c empty =
     let at = c.loop-v in
-    sym (any_is (bad_vertex _) _ at.v c.loop-v-test.true (sym (c.bad_vertex.ensures (at.invariant.0 empty).1) ∙ c.if-bad_vertex.true))
+    sym (any_is (bad_vertex _) _ at.v c.loop-v-test.true (sym (c.bad_vertex.ensures (rw (c.read.ensures.heads, c.read.ensures.nexts) (at.invariant.0 empty).1)) ∙ c.if-bad_vertex.true))
 
 pub loop-v-preserved : goal.loop-v-preserved
 loop-v-preserved c =
@@ -27,7 +27,7 @@ loop-v-preserved c =
     let last = c.bad_vertex in (
       λ empty.
           let (none, kept) = at.invariant.0 empty in (
-            any_next _ _ none (sym (last.ensures kept) ∙ c.if-bad_vertex.false),
+            any_next _ _ none (sym (last.ensures (rw (c.read.ensures.heads, c.read.ensures.nexts) kept)) ∙ c.if-bad_vertex.false),
             vertex_kept _ at.v _ _ _ _ kept (omega (arith, below, lent.places, at.invariant.1)) (omega (arith, below, lent.fits)) (ap (λ (l : Links). l.heads) turn.linked) (ap (λ (l : Links). l.nexts) turn.linked),
           ),
       ap (λ (l : Links). length l.nexts) turn.linked ∙ pushed_nexts_long _ _ _ ∙ at.invariant.1,

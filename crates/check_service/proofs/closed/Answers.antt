@@ -14,7 +14,7 @@ place m heads links lent e is =
     ap reported (sym is ∙ e ∙ roomy_found heads links m (record { keys = lent.some; places = lent.enough; fits = lent.fits }))
 
 pub returns-in-Some : goal.returns-in-Some
-returns-in-Some c = place (tables_read c.args.mesh.now) _ _ c.requires c.first_hanging.ensures c.in-Some.is
+returns-in-Some c = place (tables_read c.args.mesh.now) _ _ c.requires c.first_hanging.ensures.value c.in-Some.is
 
 pub returns-in-None : goal.returns-in-None
-returns-in-None c = place (tables_read c.args.mesh.now) _ _ c.requires c.first_hanging.ensures c.in-None.is
+returns-in-None c = place (tables_read c.args.mesh.now) _ _ c.requires c.first_hanging.ensures.value c.in-None.is

@@ -21,36 +21,36 @@ where_fit heads nexts e h t f = where_lent e (fit_not_short heads nexts _ _ _ h 
 pub returns-then-bad_vertices : goal.returns-then-bad_vertices
 unfolding base_number first_broken
 returns-then-bad_vertices c =
-    let is_4 = where_fit _ _ (c.bad_vertices.ensures c.requires.heads_empty) refl refl c.requires.lent_to_base.vertices in
+    let is_4 = where_fit _ _ (c.bad_vertices.ensures.value c.requires.heads_empty) refl refl c.requires.lent_to_base.vertices in
     rw (is_4 ∙ c.if-bad_vertices.true)
 
 pub returns-in_err-judged_pieces : goal.returns-in_err-judged_pieces
 unfolding base_number first_broken
 returns-in_err-judged_pieces c =
-    let is_4 = where_fit _ _ (c.bad_vertices.ensures c.requires.heads_empty) refl refl c.requires.lent_to_base.vertices in
+    let is_4 = where_fit _ _ (c.bad_vertices.ensures.value c.requires.heads_empty) refl refl c.requires.lent_to_base.vertices in
     let p = err_from_is_err_and c.from_residual.result c.from_residual.ensures.1 in
     rw (p.1, p.2, is_4 ∙ c.if-bad_vertices.false) (pieces_some (tables_read c.args.mesh.now) c.in_err-judged_pieces.ensures (eqb-false _ _ (some_number _)) _)
 
 pub returns-then-bad_base_marks : goal.returns-then-bad_base_marks
 unfolding base_number first_broken
 returns-then-bad_base_marks c =
-    let is_4 = where_fit _ _ (c.bad_vertices.ensures c.requires.heads_empty) refl refl c.requires.lent_to_base.vertices in
+    let is_4 = where_fit _ _ (c.bad_vertices.ensures.value c.requires.heads_empty) refl refl c.requires.lent_to_base.vertices in
     let (bad, left) = pieces_none (tables_read c.args.mesh.now) c.in_ok-judged_pieces.ensures refl in
     rw (is_4 ∙ c.if-bad_vertices.false, bad, left, sym c.bad_base_marks.ensures ∙ c.if-bad_base_marks.true)
 
 pub returns-then-bad_base_faces : goal.returns-then-bad_base_faces
 unfolding base_number first_broken
 returns-then-bad_base_faces c =
-    let is_4 = where_fit _ _ (c.bad_vertices.ensures c.requires.heads_empty) refl refl c.requires.lent_to_base.vertices in
-    let is_7 = where_fit _ _ (c.bad_base_faces.ensures c.requires.face_heads_empty) refl (omega arith) c.requires.lent_to_base.faces in
+    let is_4 = where_fit _ _ (c.bad_vertices.ensures.value c.requires.heads_empty) refl refl c.requires.lent_to_base.vertices in
+    let is_7 = where_fit _ _ (c.bad_base_faces.ensures.value c.requires.face_heads_empty) refl (omega arith) c.requires.lent_to_base.faces in
     let (bad, left) = pieces_none (tables_read c.args.mesh.now) c.in_ok-judged_pieces.ensures refl in
     rw (is_4 ∙ c.if-bad_vertices.false, bad, left, sym c.bad_base_marks.ensures ∙ c.if-bad_base_marks.false, is_7 ∙ c.if-bad_base_faces.true)
 
 pub returns-then-unused_vertices : goal.returns-then-unused_vertices
 unfolding base_number first_broken
 returns-then-unused_vertices c =
-    let is_4 = where_fit _ _ (c.bad_vertices.ensures c.requires.heads_empty) refl refl c.requires.lent_to_base.vertices in
-    let is_7 = where_fit _ _ (c.bad_base_faces.ensures c.requires.face_heads_empty) refl (omega arith) c.requires.lent_to_base.faces in
+    let is_4 = where_fit _ _ (c.bad_vertices.ensures.value c.requires.heads_empty) refl refl c.requires.lent_to_base.vertices in
+    let is_7 = where_fit _ _ (c.bad_base_faces.ensures.value c.requires.face_heads_empty) refl (omega arith) c.requires.lent_to_base.faces in
     let is_8 = where_lent c.unused_vertices.ensures (le-ltb _ _ c.requires.lent_to_base.each_base_vertex) in
     let (bad, left) = pieces_none (tables_read c.args.mesh.now) c.in_ok-judged_pieces.ensures refl in
     rw (
@@ -65,10 +65,10 @@ returns-then-unused_vertices c =
 pub returns-then-hanging_vertices : goal.returns-then-hanging_vertices
 unfolding base_number first_broken
 returns-then-hanging_vertices c =
-    let is_4 = where_fit _ _ (c.bad_vertices.ensures c.requires.heads_empty) refl refl c.requires.lent_to_base.vertices in
-    let is_7 = where_fit _ _ (c.bad_base_faces.ensures c.requires.face_heads_empty) refl (omega arith) c.requires.lent_to_base.faces in
+    let is_4 = where_fit _ _ (c.bad_vertices.ensures.value c.requires.heads_empty) refl refl c.requires.lent_to_base.vertices in
+    let is_7 = where_fit _ _ (c.bad_base_faces.ensures.value c.requires.face_heads_empty) refl (omega arith) c.requires.lent_to_base.faces in
     let is_8 = where_lent c.unused_vertices.ensures (le-ltb _ _ c.requires.lent_to_base.each_base_vertex) in
-    let is_23 = where_fit _ _ c.hanging_vertices.ensures (omega arith) (omega arith) c.requires.lent_to_base.base_vertices_lem in
+    let is_23 = where_fit _ _ c.hanging_vertices.ensures.value (omega arith) (omega arith) c.requires.lent_to_base.base_vertices_lem in
     let (bad, left) = pieces_none (tables_read c.args.mesh.now) c.in_ok-judged_pieces.ensures refl in
     rw (
       is_4 ∙ c.if-bad_vertices.false,
@@ -83,10 +83,10 @@ returns-then-hanging_vertices c =
 pub returns : goal.returns
 unfolding base_number first_broken
 returns c =
-    let is_4 = where_fit _ _ (c.bad_vertices.ensures c.requires.heads_empty) refl refl c.requires.lent_to_base.vertices in
-    let is_7 = where_fit _ _ (c.bad_base_faces.ensures c.requires.face_heads_empty) refl (omega arith) c.requires.lent_to_base.faces in
+    let is_4 = where_fit _ _ (c.bad_vertices.ensures.value c.requires.heads_empty) refl refl c.requires.lent_to_base.vertices in
+    let is_7 = where_fit _ _ (c.bad_base_faces.ensures.value c.requires.face_heads_empty) refl (omega arith) c.requires.lent_to_base.faces in
     let is_8 = where_lent c.unused_vertices.ensures (le-ltb _ _ c.requires.lent_to_base.each_base_vertex) in
-    let is_23 = where_fit _ _ c.hanging_vertices.ensures (omega arith) (omega arith) c.requires.lent_to_base.base_vertices_lem in
+    let is_23 = where_fit _ _ c.hanging_vertices.ensures.value (omega arith) (omega arith) c.requires.lent_to_base.base_vertices_lem in
     let (bad, left) = pieces_none (tables_read c.args.mesh.now) c.in_ok-judged_pieces.ensures refl in
     rw (
       is_4 ∙ c.if-bad_vertices.false,

@@ -22,11 +22,11 @@ where_room h heads links children midpoints lent e =
 
 pub returns-then-bad_cuts : goal.returns-then-bad_cuts
 unfolding cuts_report
-returns-then-bad_cuts c = rw (where_room _ _ _ _ _ c.requires c.bad_cuts.ensures ∙ c.if-bad_cuts.true)
+returns-then-bad_cuts c = rw (where_room _ _ _ _ _ c.requires c.bad_cuts.ensures.value ∙ c.if-bad_cuts.true)
 
 pub closed-requires : goal.closed-requires
 closed-requires c = let v = c.requires.vertices in record { some = omega (arith, v.some); enough = omega (arith, v.enough); fits = v.fits }
 
 pub returns : goal.returns
 unfolding cuts_report
-returns c = rw (where_room _ _ _ _ _ c.requires c.bad_cuts.ensures ∙ c.if-bad_cuts.false) c.closed.ensures
+returns c = rw (where_room _ _ _ _ _ c.requires c.bad_cuts.ensures.value ∙ c.if-bad_cuts.false) c.closed.ensures

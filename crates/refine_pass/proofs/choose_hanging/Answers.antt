@@ -19,5 +19,5 @@ loop-n-preserved c =
     let was = c.loop-n in
     let m = tables_read a.linked.now.mesh.now in
     let linked = a.linked.now.linked in
-    let hangs = leaf_hangs_along_lem m (all_vertices m) a.linked.now.links.now.heads.now a.linked.now.links.now.nexts.now linked.chain linked.keys (le_refl (all_vertices m)) was.n in
+    let hangs = leaf_hangs_along_lem m (all_vertices m) a.linked.now.links.heads.now a.linked.now.links.nexts.now linked.chain linked.keys (le_refl (all_vertices m)) was.n in
     rw c.from.ensures (chosen_next (leaf_hangs m) was.n was.chosen was.some c.leaf_hangs-hangs.result was.invariant (omega (arith, was.auto.chosen, c.requires)) (c.leaf_hangs-hangs.ensures ∙ hangs))

@@ -4,5 +4,5 @@ use mathlib.Core.Path.{sym, ◌∙◌}
 use Rattle.refine_pass.specs.Steps.{out_of_reach_stays}
 use Rattle.refine_pass.proofs.refined.Goals as goal
 
-pub returns-then-not-numbers_reach : goal.returns-then-not-numbers_reach
-returns-then-not-numbers_reach c = out_of_reach_stays _ _ _ _ (sym c.numbers_reach.ensures ∙ c.if-not-numbers_reach.true)
+pub returns-then-not-numbers_reach-clause-value : goal.returns-then-not-numbers_reach-clause-value
+returns-then-not-numbers_reach-clause-value c = out_of_reach_stays _ _ _ _ (sym c.numbers_reach.ensures ∙ c.if-not-numbers_reach.true)

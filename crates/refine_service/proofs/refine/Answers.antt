@@ -1,4 +1,5 @@
 -- `refine_service::refine`: the rules in their order; the buffer is cleared before the first.
+-- The outcome rests on the number in the verdict's report alone, the edge on the whole report.
 -- Assumes nothing.
 use mathlib.Core.Path.{◌≡◌, refl, sym, ap, subst, ◌∙◌}
 use mathlib.Core.List.{List, []}
@@ -12,10 +13,13 @@ use Rattle.stored.specs.declared.Layout.{Layout}
 use Rattle.stored.specs.declared.Header.{Header}
 use Rattle.stored.specs.Layout.{kind1, header_from, layout_of, stored1, selection_in, selection1}
 use Rattle.mesh_tables.specs.Tables.{tables, tables_of}
+use Rattle.check_refusals.specs.declared.Report.{Report}
 use Rattle.check_refusals.specs.Check.{check_number}
 use Rattle.check_refusals.specs.Outcomes.{some_number}
-use Rattle.refine_service.specs.Order.{selection_number, verdict_number}
+use Rattle.check_service.specs.Verdict.{names_none}
+use Rattle.refine_service.specs.Order.{selection_number, number_told}
 use Rattle.refine_service.specs.Storing.{Copied, copied_ready, later_number, later_bytes, refine_judged, refine_selected, refine_later, refine_later_bytes}
+use Rattle.refine_service.specs.Answer.{selection_not_10, later_not_10}
 use Rattle.refine_service.proofs.refine.Goals as goal
 
 -- The tables that are judged with the selection are those that the mesh holds.
@@ -27,16 +31,21 @@ tables_found k h l mesh selection is read laid =
     ∙ ap (λ (g : Header). selection_number (tables g (layout_of k g) mesh []) (selection_in k.format selection)) read
     ∙ ap (λ (j : Kind). selection_number (tables (header_from j.format mesh) (layout_of j (header_from j.format mesh)) mesh []) (selection_in j.format selection)) is
 
-pub returns-in_err-verdict : goal.returns-in_err-verdict
-returns-in_err-verdict c =
+pub returns-in_err-verdict-clause-outcome : goal.returns-in_err-verdict-clause-outcome
+returns-in_err-verdict-clause-outcome c =
     let a = c.args in
     let mesh = stored1 a.mesh.now in
     let selection = selection1 a.selection.now in
     let room = length a.out.now in
     let p = err_from_is_err_and c.from_residual.result c.from_residual.ensures.1 in
-    let found = verdict_number mesh (Err _) c.in_err-verdict.ensures in
+    let found = number_told mesh (Err _) (ap (λ (r : Report). r.number) c.in_err-verdict.ensures) in
     let r = refine_judged mesh selection room (rw (← found) (some_number _)) in
     rw (p.1, p.2) (record { number = found ∙ r.0; bytes = c.fill.ensures.after (λ y e. e) ∙ r.1 })
+
+pub returns-in_err-verdict-clause-edge : goal.returns-in_err-verdict-clause-edge
+returns-in_err-verdict-clause-edge c =
+    let p = err_from_is_err_and c.from_residual.result c.from_residual.ensures.1 in
+    rw (p.1, p.2) (λ ten. c.in_err-verdict.ensures)
 
 pub returns-in_err-selected : goal.returns-in_err-selected
 returns-in_err-selected c =
@@ -45,10 +54,14 @@ returns-in_err-selected c =
     let selection = selection1 a.selection.now in
     let room = length a.out.now in
     let p = err_from_is_err_and c.from_residual-in_err-selected.result c.from_residual-in_err-selected.ensures.1 in
-    let none : check_number mesh ≡ 0 = sym (verdict_number mesh (Ok tt) c.in_ok-verdict.ensures) in
+    let none : check_number mesh ≡ 0 = sym (number_told mesh (Ok tt) (ap (λ (r : Report). r.number) c.in_ok-verdict.ensures)) in
     let found = c.in_err-selected.ensures ∙ tables_found c.kind_1-k.result c.header_from-h.result c.layout_of.result a.mesh.now a.selection.now c.kind_1-k.ensures c.header_from-h.ensures c.layout_of.ensures in
     let r = refine_selected mesh selection room none (rw (← found) (some_number _)) in
-    rw (p.1, p.2) (record { number = found ∙ r.0; bytes = c.fill.ensures.after (λ y e. e) ∙ r.1 })
+    rw (p.1, p.2)
+    (record {
+      outcome = record { number = found ∙ r.0; bytes = c.fill.ensures.after (λ y e. e) ∙ r.1 };
+      edge = names_none mesh (Err _) _ found (selection_not_10 (tables_of mesh) selection);
+    })
 
 pub store-requires : goal.store-requires
 store-requires c =
@@ -56,7 +69,7 @@ store-requires c =
     let mesh = stored1 a.mesh.now in
     let room = length a.out.now in
     let out = c.fill.new.self in
-    let none : check_number mesh ≡ 0 = sym (verdict_number mesh (Ok tt) c.in_ok-verdict.ensures) in
+    let none : check_number mesh ≡ 0 = sym (number_told mesh (Ok tt) (ap (λ (r : Report). r.number) c.in_ok-verdict.ensures)) in
     let header = c.header_from-h.ensures ∙ ap (λ (k : Kind). header_from k.format a.mesh.now) c.kind_1-k.ensures in
     subst (λ (h : Header). Copied h mesh out) (sym header) (copied_ready mesh refl out none (clear_itself out room (c.fill.ensures.after (λ y e. e))))
 
@@ -67,10 +80,15 @@ returns c =
     let selection = selection1 a.selection.now in
     let room = length a.out.now in
     let out = c.fill.new.self in
-    let none : check_number mesh ≡ 0 = sym (verdict_number mesh (Ok tt) c.in_ok-verdict.ensures) in
+    let none : check_number mesh ≡ 0 = sym (number_told mesh (Ok tt) (ap (λ (r : Report). r.number) c.in_ok-verdict.ensures)) in
     let right = sym (c.in_ok-selected.ensures ∙ tables_found c.kind_1-k.result c.header_from-h.result c.layout_of.result a.mesh.now a.selection.now c.kind_1-k.ensures c.header_from-h.ensures c.layout_of.ensures) in
     let long = clear_long out room (c.fill.ensures.after (λ y e. e)) in
+    let found = c.store.ensures.value ∙ ap (later_number mesh selection) long in
     record {
-      number = c.store.ensures.value ∙ ap (later_number mesh selection) long ∙ refine_later mesh selection room none right;
-      bytes = c.store.ensures.out_after ∙ ap (later_bytes mesh selection) long ∙ refine_later_bytes mesh selection room none right;
+      outcome =
+          record {
+            number = found ∙ refine_later mesh selection room none right;
+            bytes = c.store.ensures.out_after ∙ ap (later_bytes mesh selection) long ∙ refine_later_bytes mesh selection room none right;
+          };
+      edge = names_none mesh _ _ found (later_not_10 mesh selection room);
     }

@@ -25,6 +25,6 @@ passes k is heads nexts chosen selection count s room places =
 pub returns : goal.returns
 returns c =
     let a = c.args in
-    c.refined.ensures
+    c.refined.ensures.value
     ∙ passes c.kind_1.result c.kind_1.ensures _ _ _ a.selection.now a.count (slices a.h a.vertices.now a.records.now)
     (record { keys = omega arith; places = omega arith; fits = omega arith }) (omega arith)

@@ -34,7 +34,7 @@ returns-then-out-mesh_length c =
     let laid = c.layout_of.ensures ∙ ap (λ (k : Kind). layout_of k a.h) kind in
     let heading = c.selection_of-s.ensures ∙ ap (λ (k : Kind). selection_of (selection_in k.format request)) kind in
     let named : c.choose_named.new.chosen ≡ table_of limits.records (selection1 request) (selection_of (selection1 request)).count = c.choose_named.ensures ∙ (λ i. table_of limits.records (selection_in (kind i).format request) (heading i).count) in
-    let is = c.remaining-with.ensures ∙ (λ i. left_within (cramped a.h heads each_vertex each_record each_vertex each_record) (tables a.h (laid i) mesh []) (marked (named i)) (left_of a.h each_vertex each_record)) in
+    let is = c.remaining-with.ensures.value ∙ (λ i. left_within (cramped a.h heads each_vertex each_record each_vertex each_record) (tables a.h (laid i) mesh []) (marked (named i)) (left_of a.h each_vertex each_record)) in
     let size = c.mesh_length.ensures ∙ ap (λ (k : Kind). mesh_length k.format c.remaining-with.result.vertices c.remaining-with.result.records) kind in
     let both = left_20 (stored1 mesh) (selection1 request) a.out.now a.h c.requires heads each_vertex each_record each_vertex each_record (lent_whole a.h c.requires.within) _ is (omega (arith, size, c.if-out-mesh_length.true)) in record { value = both.0; out_after = both.1 }
 
@@ -47,7 +47,7 @@ returns c =
     let laid = c.layout_of.ensures ∙ ap (λ (k : Kind). layout_of k a.h) kind in
     let heading = c.selection_of-s.ensures ∙ ap (λ (k : Kind). selection_of (selection_in k.format request)) kind in
     let named : c.choose_named.new.chosen ≡ table_of limits.records (selection1 request) (selection_of (selection1 request)).count = c.choose_named.ensures ∙ (λ i. table_of limits.records (selection_in (kind i).format request) (heading i).count) in
-    let is = c.remaining-with.ensures ∙ (λ i. left_within (cramped a.h heads each_vertex each_record each_vertex each_record) (tables a.h (laid i) mesh []) (marked (named i)) (left_of a.h each_vertex each_record)) in
+    let is = c.remaining-with.ensures.value ∙ (λ i. left_within (cramped a.h heads each_vertex each_record each_vertex each_record) (tables a.h (laid i) mesh []) (marked (named i)) (left_of a.h each_vertex each_record)) in
     let size = c.mesh_length.ensures ∙ ap (λ (k : Kind). mesh_length k.format c.remaining-with.result.vertices c.remaining-with.result.records) kind in
     let r = left_0 (stored1 mesh) (selection1 request) a.out.now a.h c.requires heads each_vertex each_record each_vertex each_record (lent_whole a.h c.requires.within) _ is (omega (arith, size, c.if-out-mesh_length.false)) in
     let left = c.remaining-with.new in

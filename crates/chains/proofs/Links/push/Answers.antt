@@ -2,12 +2,11 @@
 -- Assumes nothing.
 use Prim.Native.Nat.{ℕ}
 use mathlib.Core.Path.{sym, ap, ◌∙◌}
-use mathlib.Core.List.{List}
 use native.Mathlib.Numerals.{add-one}
 use native.Mathlib.Omega.{arith}
 use lib.ListN.{set, get_or}
 use Rattle.chains.specs.Held.{links_in}
-use Rattle.laws.specs.Links.{Links, links_of, pushed_there, pushed_past, pushed_beyond, pushed_great}
+use Rattle.laws.specs.Links.{links_of, pushed_there, pushed_past, pushed_beyond, pushed_great}
 use Rattle.chains.proofs.Links.push.Goals as goal
 
 pub returns-then-self-k-clause-pushed : goal.returns-then-self-k-clause-pushed
